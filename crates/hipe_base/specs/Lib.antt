@@ -1,0 +1,10 @@
+pub mod Count
+pub mod Files
+pub mod Sink
+pub mod Reading
+pub mod Writing
+pub mod FailurePlan
+pub mod SinkStore
+pub mod FileStore
+pub mod FailingSink
+pub mod FailingFiles
