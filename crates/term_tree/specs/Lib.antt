@@ -1,0 +1,7 @@
+pub mod Name
+pub mod Small
+pub mod Tree
+pub mod Term
+pub mod Size
+pub mod Order
+pub mod Text
