@@ -1,0 +1,11 @@
+pub mod Runs
+pub mod Quotes
+pub mod Bytes
+pub mod Integers
+pub mod Refusals
+pub mod Nests
+pub mod Steps
+pub mod NextCanonical
+pub mod StepCanonical
+pub mod ProgressCanonical
+pub mod Written

@@ -1,0 +1,10 @@
+pub mod Character
+pub mod Pieces
+pub mod Tokens
+pub mod Grammar
+pub mod Reading
+pub mod Found
+pub mod Class
+pub mod Progress
+pub mod Canonical
+pub mod Spelling
