@@ -1,0 +1,37 @@
+use crate::Instr;
+use sqlite_items::Items;
+use term_tree::Name;
+
+/// Which kind of handler encloses a place in a function: none, a `try` or a `catch`.
+#[derive(Clone, Copy, PartialEq, Eq, Debug)]
+pub enum HandlerKind {
+    None,
+    Try,
+    Catch,
+}
+
+/// One instruction of a function, with the line of the text that it stands in, from 1.
+#[derive(Drop, Debug)]
+pub struct Item {
+    pub line: u32,
+    pub instr: Instr,
+}
+
+/// A function. `entry` is the index, in `items`, of the item where its calls begin.
+#[derive(Drop, Debug)]
+pub struct Function {
+    pub name: Name,
+    pub arity: u8,
+    pub entry: u32,
+    pub items: Items<Item>,
+}
+
+/// A module, with the bytes of the text that it was read from.
+#[derive(Drop, Debug)]
+pub struct Module {
+    pub name: Name,
+    /// The exported functions by name and arity, in the order of the text.
+    pub exports: Items<(Name, u8)>,
+    pub functions: Items<Function>,
+    pub text: Items<u8>,
+}
