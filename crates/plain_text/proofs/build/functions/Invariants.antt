@@ -1,0 +1,7 @@
+use Rattle.std.proofs.Common.{◌≡◌, ◌++◌, drop}
+use Rattle.plain_text.specs.Module.{functions_of}
+use Rattle.plain_text.proofs.build.functions.Given as goal
+
+abbrev pub invariant-loop-i : goal.invariant-loop-i
+invariant-loop-i l =
+    l.functions ++ functions_of l.module_name l.i (drop l.i l.constants) ≡ functions_of l.module_name 0 l.constants

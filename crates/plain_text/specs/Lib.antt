@@ -1,0 +1,5 @@
+pub mod Text
+pub mod Plain
+pub mod Module
+pub mod Reading
+pub mod Scan

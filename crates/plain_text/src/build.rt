@@ -1,0 +1,98 @@
+ghost use Rattle.std.specs.Prelude.{◌≡◌, ◌<◌, ◌≤◌, IfOk, map, length};
+ghost use Rattle.plain_text.specs.Module.{items_of, functions_of, export_of, module_of};
+
+use crate::read::MOST_BYTES;
+use crate::{Constant, Plain};
+use beam_code::{Function, Instr, Item, Module, Operand, Place};
+use sqlite_items::Items;
+use std::alloc::{AllocError, Global};
+use term_tree::Name;
+
+/// The index, among a function's items, of the label where its calls begin.
+const ENTRY: u32 = 2;
+
+/// The items of the function that `before` functions come before.
+fn items(
+    alloc: Global,
+    module_name: &Name,
+    before: u32,
+    constant: &Constant,
+) -> Result<Items<Item>, AllocError>
+    requires { before ≤ MOST_BYTES }
+    ensures { IfOk result (λ all. all ≡ items_of module_name.now before constant.now) }
+{
+    let line = 5 + 6 * before;
+    let info = Instr::FuncInfo(module_name.copy(alloc)?, constant.name.copy(alloc)?, 0);
+    let value = Instr::Move(Operand::Int(constant.value), Place::X(0));
+    let mut items = Items::new(alloc);
+    items.push(Item {
+        line: line + 1,
+        instr: Instr::Label(2 * before + 1),
+    })?;
+    items.push(Item {
+        line: line + 2,
+        instr: info,
+    })?;
+    items.push(Item {
+        line: line + 3,
+        instr: Instr::Label(2 * before + 2),
+    })?;
+    items.push(Item {
+        line: line + 4,
+        instr: value,
+    })?;
+    items.push(Item {
+        line: line + 5,
+        instr: Instr::Return,
+    })?;
+    Ok(items)
+}
+
+fn functions(
+    alloc: Global,
+    module_name: &Name,
+    constants: &[Constant],
+) -> Result<Items<Function>, AllocError>
+    requires { length constants.now ≤ MOST_BYTES }
+    ensures { IfOk result (λ all. all ≡ functions_of module_name.now 0 constants.now) }
+{
+    let mut functions = Items::new(alloc);
+    for (i, constant) in constants.iter().enumerate() {
+        let items = items(alloc, module_name, i as u32, constant)?;
+        let name = constant.name.copy(alloc)?;
+        functions.push(Function {
+            name,
+            arity: 0,
+            entry: ENTRY,
+            items,
+        })?;
+    }
+    Ok(functions)
+}
+
+fn exports(alloc: Global, constants: &[Constant]) -> Result<Items<(Name, u8)>, AllocError>
+    ensures { IfOk result (λ all. all ≡ map export_of constants.now) }
+{
+    let mut exports = Items::new(alloc);
+    for constant in constants {
+        exports.push((constant.name.copy(alloc)?, 0))?;
+    }
+    Ok(exports)
+}
+
+/// The module with this text.
+pub fn module(alloc: Global, text: &[u8], plain: Plain) -> Result<Module, AllocError>
+    requires { length plain.constants ≤ MOST_BYTES }
+    ensures { IfOk result (λ m. m ≡ module_of text.now plain) }
+{
+    let Plain { name, constants } = plain;
+    let exports = exports(alloc, constants.as_slice())?;
+    let functions = functions(alloc, &name, constants.as_slice())?;
+    let text = Items::from_slice(alloc, text)?;
+    Ok(Module {
+        name,
+        exports,
+        functions,
+        text,
+    })
+}
