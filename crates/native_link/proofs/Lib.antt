@@ -1,0 +1,17 @@
+pub mod Slots
+pub mod Widths
+pub mod Loop
+pub mod Names
+pub mod SlotLoop
+pub mod Steps
+pub mod Kept
+pub mod Bits
+pub mod Took
+pub mod Fields
+pub mod Items
+pub mod Whole
+pub mod KnownLaws
+pub mod Sizes
+pub mod Lookups
+pub mod Sound
+pub mod Second

@@ -1,0 +1,9 @@
+use Rattle.std.proofs.Common.{◌≡◌, ◌-◌}
+use Rattle.native_link.specs.Place.{many_at}
+use Rattle.native_link.specs.Reading.{text_at, after_text}
+use Rattle.native_link.specs.declared.limits.TheConstants.{MOST_TEXT_BYTES}
+use Rattle.native_link.proofs.Loop.{with_front}
+use Rattle.native_link.proofs.reading.many_texts.Given as goal
+
+abbrev pub invariant-loop : goal.invariant-loop
+invariant-loop l = with_front l.texts (many_at text_at after_text (l.count - l.counter) l.room l.reader) ≡ many_at text_at after_text l.count MOST_TEXT_BYTES l.fn.reader

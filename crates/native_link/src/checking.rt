@@ -1,0 +1,161 @@
+//! What the modules of an image ask of its other parts.
+
+ghost use Rattle.beam_code.specs.Function.{all_functions};
+ghost use Rattle.native_link.specs.Checking.{atom_count_offset, native_offset, has_atoms, is_foreign, checking, linked};
+ghost use Rattle.native_link.specs.Fitting.{IsFitting, IsSized, IsNew, and_atom};
+ghost use Rattle.native_link.specs.Follow.{Follow};
+ghost use Rattle.native_link.specs.Known.{reserved, begins};
+ghost use Rattle.native_link.specs.Place.{Gives};
+ghost use Rattle.native_link.specs.Spelling.{text, spelling};
+ghost use Rattle.native_link.specs.declared.limits.TheConstants.{MOST_IMAGE_BYTES};
+ghost use Rattle.std.specs.Cmp.Lexicographic.{pointwise};
+ghost use Rattle.std.specs.List.{flat_map};
+ghost use Rattle.std.specs.Prelude.{◌≡◌, ◌==◌, ◌<◌, ◌≤◌, [], Ok, IfOk, length, map, position};
+
+use crate::known::{are_modules_known, table_of};
+use crate::reader::padding_of;
+use crate::{ImageRefusal, Native, Parts};
+use beam_code::Module;
+use sqlite_items::Items;
+use std::alloc::{AllocError, Global};
+use term_tree::Name;
+
+/// The atoms that each image begins with.
+const RESERVED: [&str; 14] = [
+    "error",
+    "exit",
+    "throw",
+    "EXIT",
+    "true",
+    "false",
+    "badarith",
+    "badarg",
+    "function_clause",
+    "if_clause",
+    "undef",
+    "badmatch",
+    "case_clause",
+    "try_clause",
+];
+
+fn is_word(word: &str, atom: &Name) -> bool
+    ensures { result ≡ pointwise ◌==◌ word.now atom.now }
+{
+    word == atom.as_str()
+}
+
+fn begin_with(atoms: &[Name], words: &[&str]) -> bool
+    ensures { result ≡ begins (map (λ w. w.now) words.now) atoms.now }
+{
+    if atoms.len() < words.len() {
+        return false;
+    }
+    for i in 0..words.len() {
+        if !is_word(words[i], &atoms[i]) {
+            return false;
+        }
+    }
+    true
+}
+
+fn begin_as_reserved(atoms: &[Name]) -> bool
+    ensures { result ≡ begins reserved atoms.now }
+{
+    begin_with(atoms, &RESERVED)
+}
+
+fn has_all_atoms(alloc: Global, atoms: &[Name], modules: &[Module]) -> Result<bool, AllocError>
+    requires { Follow IsNew and_atom [] atoms.now }
+    ensures { IfOk result (λ b. b ≡ has_atoms atoms.now modules.now) }
+{
+    if !begin_as_reserved(atoms) {
+        return Ok(false);
+    }
+    let table = table_of(alloc, atoms)?;
+    Ok(are_modules_known(&table, modules))
+}
+
+/// How many bytes texts take in an image.
+fn size_of_texts(texts: &[Items<u8>]) -> usize
+    requires { length (flat_map text texts.now) ≤ MOST_IMAGE_BYTES }
+    ensures { result ≡ length (flat_map text texts.now) }
+{
+    let mut size = 0;
+    for bytes in texts {
+        let len = bytes.len();
+        size += 4 + len + padding_of(len);
+    }
+    size
+}
+
+/// How many bytes atoms take in an image.
+fn size_of_names(names: &[Name]) -> usize
+    requires { length (flat_map text names.now) ≤ MOST_IMAGE_BYTES }
+    ensures { result ≡ length (flat_map text names.now) }
+{
+    let mut size = 0;
+    for name in names {
+        let len = name.as_str().len();
+        size += 4 + len + padding_of(len);
+    }
+    size
+}
+
+fn offset_of_atom_count(parts: &Parts) -> u32
+    requires { length (spelling parts.now) ≤ MOST_IMAGE_BYTES }
+    ensures { result ≡ atom_count_offset parts.now }
+{
+    (12 + size_of_texts(parts.texts.as_slice())) as u32
+}
+
+fn offset_of_native(parts: &Parts, index: usize) -> u32
+    requires size { length (spelling parts.now) ≤ MOST_IMAGE_BYTES }
+    requires index { index < length parts.now.natives }
+    ensures { result ≡ native_offset parts.now index }
+{
+    let texts = size_of_texts(parts.texts.as_slice());
+    let names = size_of_names(parts.atoms.as_slice());
+    let words = parts.literals.len() + parts.roots.len();
+    (28 + texts + names + 4 * words + 12 * index) as u32
+}
+
+fn count_functions(modules: &[Module]) -> u128
+    ensures { result ≡ length (all_functions modules.now) }
+{
+    let mut count: u128 = 0;
+    for module in modules {
+        count += module.functions.len() as u128;
+    }
+    count
+}
+
+fn first_foreign(natives: &[Native], functions: u128) -> Option<usize>
+    ensures { result ≡ position (is_foreign functions) natives.now }
+{
+    natives
+        .iter()
+        .position(|native| native.fid as u128 >= functions)
+}
+
+/// Looks at the atoms and then at the native functions.
+pub(crate) fn check_modules(
+    alloc: Global,
+    parts: &Parts,
+    modules: &[Module],
+) -> Result<(), ImageRefusal>
+    requires fitting { IsFitting parts.now }
+    requires size { length (spelling parts.now) ≤ MOST_IMAGE_BYTES }
+    ensures { Gives (λ u. u) result (checking parts.now modules.now) }
+{
+    if !has_all_atoms(alloc, parts.atoms.as_slice(), modules)? {
+        let offset = offset_of_atom_count(parts);
+        return Err(ImageRefusal::Value { offset });
+    }
+    match first_foreign(parts.natives.as_slice(), count_functions(modules)) {
+        None => Ok(()),
+        Some(index) => {
+            let offset = offset_of_native(parts, index);
+            Err(ImageRefusal::Value { offset })
+        }
+    }
+}
