@@ -1,0 +1,3 @@
+-- proofs/Lib.antt
+pub mod WordLaws
+pub mod RegionLaws

@@ -1,0 +1,6 @@
+-- specs/Lib.antt
+pub mod Region
+pub mod Word
+pub mod Store
+pub mod Laid
+pub mod Atoms
