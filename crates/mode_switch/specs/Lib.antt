@@ -1,0 +1,11 @@
+pub mod State
+pub mod Memory
+pub mod Place
+pub mod Step
+pub mod Junk
+pub mod Run
+pub mod Lookup
+pub mod Reach
+pub mod Machine
+pub mod Start
+pub mod Text

@@ -1,0 +1,124 @@
+-- How far a call on the machine has come, and what its steps and its run make of that (docs/MACHINE.md, Runs).
+use Rattle.std.specs.Prelude.{ℕ, ◌≡◌, zero, suc, ◌+◌, ◌-◌, ◌^◌, ◌≤◌, Option, Some, None, Result, Ok, Err, List, [], length, min}
+use Rattle.small_step.specs.Stage.{Stage, Still, Done}
+use Rattle.beam_code.specs.Function.{items_of}
+use Rattle.beam_code.specs.declared.call.Limits.{Limits}
+use Rattle.beam_code.specs.declared.module.Module.{Module}
+use Rattle.native_link.specs.declared.limits.TheConstants.{MOST_CODE}
+use Rattle.native_link.specs.declared.parts.Parts.{Parts}
+use Rattle.mode_switch.specs.declared.addresses.TheConstants.{MOST_REDUCTIONS, MOST_WORDS, MOST_ITEMS}
+use Rattle.mode_switch.specs.declared.outcome.Outcome.{Outcome}
+use Rattle.mode_switch.specs.declared.outcome.Outcome.TheVariants.{Ended}
+use Rattle.mode_switch.specs.declared.outcome.End.TheVariants.{StepsSpent}
+use Rattle.mode_switch.specs.declared.outcome.Step.{Step}
+use Rattle.mode_switch.specs.declared.outcome.Step.TheVariants as answer
+use Rattle.mode_switch.specs.Run.{full_step, mixed_run, bound}
+use Rattle.mode_switch.specs.Step.{fault_of}
+use Rattle.sparc_code.specs.declared.machine.Regs.{Regs}
+use Rattle.sparc_code.specs.declared.machine.MachineFault.{MachineFault}
+use Rattle.mode_switch.specs.State.{Loaded, MixedState, Finish}
+use Rattle.mode_switch.specs.Place.{Place, Gate, Item, Code, Nowhere}
+use Rattle.mode_switch.specs.declared.places.Site.{Site}
+use Rattle.mode_switch.specs.declared.places.Site.TheVariants as site
+
+-- what stays as it is, the state, the outcome once the run is over, and how many steps were done since the start
+pub record Progress : Type 0 where
+  pub loaded : Loaded
+  pub state : MixedState
+  pub outcome : Option Outcome
+  pub steps : ℕ
+
+-- the number of steps stands still at its greatest value
+abbrev pub most_steps : ℕ
+most_steps = 2 ^ 64 - 1
+
+abbrev pub one_more : ℕ → ℕ
+one_more steps = min (steps + 1) most_steps
+
+-- what a state and an outcome, if there is one, are as a stage
+abbrev pub stage_of : MixedState → Option Outcome → Stage MixedState Finish
+stage_of s None = Still s
+stage_of s (Some o) = Done (record { outcome = o; state = s })
+
+-- how the processor's step ends the run, if it does
+abbrev pub outcome_by : Regs → Result (Unit {0}) MachineFault → Option Outcome
+outcome_by regs (Ok done) = None
+outcome_by regs (Err fault) = Some (Ended (fault_of regs fault))
+
+-- after a step
+abbrev pub after_step : Progress → Stage MixedState Finish → Progress
+after_step p (Still s) = record { loaded = p.loaded; state = s; outcome = None; steps = one_more p.steps }
+after_step p (Done f) = record { loaded = p.loaded; state = f.state; outcome = Some f.outcome; steps = one_more p.steps }
+
+abbrev pub answer_of : Stage MixedState Finish → Step
+answer_of (Still s) = answer.Still
+answer_of (Done f) = answer.Done f.outcome
+
+-- one step; a run that is over stays as it is
+abbrev pub stepped_with : Progress → Option Outcome → Progress
+stepped_with p None = after_step p (full_step p.loaded p.state)
+stepped_with p (Some o) = p
+
+abbrev pub stepped : Progress → Progress
+stepped p = stepped_with p p.outcome
+
+abbrev pub step_answer_with : Progress → Option Outcome → Step
+step_answer_with p None = answer_of (full_step p.loaded p.state)
+step_answer_with p (Some o) = answer.Done o
+
+abbrev pub step_answer : Progress → Step
+step_answer p = step_answer_with p p.outcome
+
+-- how many steps a run of at most so many does
+abbrev pub taken_after : Stage MixedState Finish → (MixedState → ℕ) → ℕ
+taken_after (Still s) more = 1 + more s
+taken_after (Done f) more = 1
+
+abbrev pub steps_taken : (MixedState → Stage MixedState Finish) → ℕ → MixedState → ℕ
+steps_taken step zero s = 0
+steps_taken step (suc n) s = taken_after (step s) (steps_taken step n)
+
+-- a progress and the answer of the run that led there
+pub record Ran : Type 0 where
+  pub progress : Progress
+  pub answer : Outcome
+
+abbrev pub ran_to : Progress → ℕ → Stage MixedState Finish → Ran
+ran_to p steps (Still s) =
+    record { progress = record { loaded = p.loaded; state = s; outcome = None; steps = steps }; answer = Ended StepsSpent }
+ran_to p steps (Done f) =
+    record { progress = record { loaded = p.loaded; state = f.state; outcome = Some f.outcome; steps = steps }; answer = f.outcome }
+
+-- at most so many steps
+abbrev pub ran_for : Progress → ℕ → Ran
+ran_for p n = ran_to p (p.steps + steps_taken (full_step p.loaded) n p.state) (mixed_run p.loaded n p.state)
+
+-- the steps that are left to the bound; a run that is over stays as it is
+abbrev pub ran_with : Progress → Option Outcome → Ran
+ran_with p None = ran_for p (bound p.loaded - p.steps)
+ran_with p (Some o) = record { progress = p; answer = o }
+
+abbrev pub ran : Progress → Ran
+ran p = ran_with p p.outcome
+
+-- what a machine keeps true of what stays as it is: the number of items is theirs, the bound fits 64 bits, and there is
+-- no junk
+pub record IsReady (modules : List Module) (parts : Parts) (limits : Limits) (junk : List ℕ) (items : ℕ) : Type 0 where
+  pub counted : items ≡ items_of modules
+  pub few_items : items ≤ MOST_ITEMS
+  pub code : length parts.code ≤ MOST_CODE
+  pub reductions : limits.reductions ≤ MOST_REDUCTIONS
+  pub no_junk : junk ≡ []
+
+-- the limits are within their greatest values
+pub record AreInRange (limits : Limits) : Type 0 where
+  pub reductions : limits.reductions ≤ MOST_REDUCTIONS
+  pub heap : limits.heap ≤ MOST_WORDS
+  pub stack : limits.stack ≤ MOST_WORDS
+
+-- the place that a site of the code is
+abbrev pub meant : Site → Place
+meant (site.Gate n) = Gate n
+meant (site.Item i) = Item i
+meant (site.Code i) = Code i
+meant site.Nowhere = Nowhere

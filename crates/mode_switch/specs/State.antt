@@ -1,0 +1,30 @@
+-- The state of the machine (docs/MACHINE.md, State).
+use Rattle.std.specs.Prelude.{ℕ, List}
+use Rattle.beam_code.specs.declared.call.Limits.{Limits}
+use Rattle.beam_code.specs.declared.module.Module.{Module}
+use Rattle.mode_switch.specs.declared.outcome.Outcome.{Outcome}
+use Rattle.native_link.specs.declared.parts.Parts.{Parts}
+use Rattle.sparc_code.specs.declared.machine.Regs.{Regs}
+use Rattle.tagged_words.specs.Region.{Region}
+
+-- what stays as it is during a run: the image's modules and parts, the limits, the names of the atoms by number
+-- (those of the image, then those that the call brings), and the words that are written over slots which are not live
+pub record Loaded : Type 0 where
+  pub modules : List Module
+  pub parts : Parts
+  pub limits : Limits
+  pub names : List (List ℕ)
+  pub junk : List ℕ
+
+-- registers with PC and nPC, the words of heap, x area and stack, and the next place in the junk list
+pub record MixedState : Type 0 where
+  pub regs : Regs
+  pub heap : Region
+  pub xs : Region
+  pub stack : Region
+  pub place : ℕ
+
+-- how a run ended, and in which state
+pub record Finish : Type 0 where
+  pub outcome : Outcome
+  pub state : MixedState

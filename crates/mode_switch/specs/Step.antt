@@ -1,0 +1,66 @@
+-- One step of the machine: a native word by the processor, a gate, or a row of an emulated item (docs/MACHINE.md, Steps).
+use Rattle.std.specs.Prelude.{ℕ, Option, Some, None, nat_eq, if◌then◌else◌, length, slice_get}
+use Rattle.small_step.specs.Stage.{Stage, Still, Done}
+use Rattle.beam_code.specs.Function.{items_of}
+use Rattle.sparc_code.specs.Code.{decoded}
+use Rattle.sparc_code.specs.declared.machine.Regs.{Regs}
+use Rattle.sparc_code.specs.declared.machine.MachineFault.{MachineFault}
+use Rattle.sparc_code.specs.declared.machine.MachineFault.TheVariants as sparc
+use Rattle.sparc_code.specs.Step.{Effect, Goes, Stores, Faults, register, word_effect}
+use Rattle.mode_switch.specs.declared.outcome.End.{End}
+use Rattle.mode_switch.specs.declared.outcome.End.TheVariants.{StackFull, OutOfReductions, MachineFault as Fault, NotBuilt}
+use Rattle.mode_switch.specs.declared.outcome.FaultKind.TheVariants.{Illegal, Unaligned, Range, Fetch}
+use Rattle.mode_switch.specs.declared.outcome.Outcome.{Outcome}
+use Rattle.mode_switch.specs.declared.outcome.Outcome.TheVariants.{Returned, Ended}
+use Rattle.mode_switch.specs.Memory.{literals_of, load_of, stores_of, stored}
+use Rattle.mode_switch.specs.Place.{Place, Gate, Item, Code, Nowhere, is_gate, place_of}
+use Rattle.mode_switch.specs.State.{Loaded, MixedState, Finish}
+
+-- the run ends, and the state stays
+abbrev pub over : MixedState → Outcome → Stage MixedState Finish
+over s outcome = Done (record { outcome = outcome; state = s })
+
+abbrev pub ended : MixedState → End → Stage MixedState Finish
+ended s e = over s (Ended e)
+
+-- the processor's fault: a word that is no instruction is at PC
+abbrev pub fault_of : Regs → MachineFault → End
+fault_of regs sparc.Illegal = Fault Illegal regs.pc
+fault_of regs (sparc.Unaligned at) = Fault Unaligned at
+fault_of regs (sparc.Range at) = Fault Range at
+
+abbrev pub native_after : MixedState → Effect → Stage MixedState Finish
+native_after s (Goes regs) = Still (record s { regs = regs })
+native_after s (Stores regs at w) = Still (stored (record s { regs = regs }) at w)
+native_after s (Faults fault) = ended s (fault_of s.regs fault)
+
+-- a native word
+abbrev pub native_step : Loaded → MixedState → Option ℕ → Stage MixedState Finish
+native_step g s None = ended s (Fault Fetch s.regs.pc)
+native_step g s (Some word) = native_after s (word_effect (load_of (literals_of g) s) (stores_of s) s.regs (decoded word))
+
+-- the register of x0, of a return's value
+abbrev pub value_register : ℕ
+value_register = 8
+
+-- a gate: the stop address, the two ends of an entry, and those still to come
+abbrev pub gate_step : MixedState → ℕ → Stage MixedState Finish
+gate_step s n =
+    if nat_eq n 0 then over s (Returned (register s.regs value_register))
+    else if nat_eq n 1 then ended s OutOfReductions
+    else if nat_eq n 2 then ended s StackFull
+    else if is_gate n then ended s (NotBuilt s.regs.pc)
+    else ended s (Fault Fetch s.regs.pc)
+
+abbrev pub step_at : Loaded → MixedState → Place → Stage MixedState Finish
+step_at g s (Gate n) = gate_step s n
+step_at g s (Item i) = ended s (NotBuilt s.regs.pc)
+step_at g s (Code i) = native_step g s (slice_get g.parts.code i)
+step_at g s Nowhere = ended s (Fault Fetch s.regs.pc)
+
+abbrev pub place_at : Loaded → MixedState → Place
+place_at g s = place_of (items_of g.modules) (length g.parts.code) s.regs.pc
+
+-- one step
+abbrev pub mixed_step : Loaded → MixedState → Stage MixedState Finish
+mixed_step g s = step_at g s (place_at g s)
