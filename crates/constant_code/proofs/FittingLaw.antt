@@ -1,0 +1,156 @@
+-- The parts that are compiled meet the rules of the format.
+use Rattle.std.proofs.Common.{◌≡◌, ℕ, zero, suc, ℤ, pos, ◌+◌, ◌*◌, ◌^◌, ◌<◌, ◌≤◌, ◌++◌, List, [], ◌∷◌, Bool, true, false, length, map, refl, ap, subst, sym, ◌∙◌, append_assoc, append-nil, arith, length-append, if◌then◌else◌}
+use Rattle.std.specs.List.{AllByRecursion, list_any}
+use Rattle.std.specs.Str.{is_utf8, chars}
+use Rattle.beam_code.specs.declared.module.Function.{Function}
+use Rattle.beam_code.specs.declared.module.Module.{Module}
+use Rattle.beam_code.specs.Function.{cost_of}
+use Rattle.constant_code.proofs.CompiledLaw.{few, length-code_of}
+use Rattle.constant_code.specs.Compiled.{value_of, IsReady, words_of, code_of, native_of, natives_from, with_names, export_name, function_name, atoms_of, compiled, IsCompilable, most_units}
+use Rattle.constant_code.specs.Image.{IsConstant}
+use Rattle.constant_code.specs.Words.{entry_instrs, return_instrs, end_instrs, constant_instrs, constant_words, constant_length}
+use Rattle.native_link.specs.Atoms.{is_name, is_among}
+use Rattle.native_link.specs.Fitting.{IsFitting, IsSized, IsSizedNative, IsSizedDescriptor, IsWord, IsName, IsNew, and_atom, NativeFits, after_native, turn, first_turn, total_count}
+use Rattle.native_link.specs.Follow.{Follow}
+use Rattle.sparc_code.proofs.Laws.{encoded_below}
+use Rattle.sparc_code.specs.Code.{encoded, IsInWidth}
+use Rattle.sparc_code.specs.declared.instruction.Instr.{Instr}
+use Rattle.tagged_words.proofs.WordLaws.{small_word-below}
+use Rattle.tagged_words.specs.Atoms.{first_atoms}
+use Rattle.tagged_words.specs.Laid.{same_text, with_atom}
+use Rattle.tagged_words.specs.Word.{small_word, IsSmall}
+
+-- one more atom, which is new
+follow_end : (e xs : List (List ℕ)) (a : List ℕ) → Follow IsNew and_atom e xs → is_among a (e ++ xs) ≡ false → Follow IsNew and_atom e (xs ++ a ∷ [])
+follow_end e [] a all new = (ap (is_among a) (sym (append-nil e)) ∙ new, tt)
+follow_end e (x ∷ xs) a all new = (all.0, follow_end (e ++ x ∷ []) xs a all.1 (ap (is_among a) (append_assoc e (x ∷ []) xs) ∙ new))
+
+-- atoms that differ, and are names
+pub record Table (atoms : List (List ℕ)) (most : ℕ) : Type 0 where
+  pub distinct : Follow IsNew and_atom [] atoms
+  pub names : AllByRecursion IsName atoms
+  pub few : length atoms ≤ most
+
+names_end : (xs : List (List ℕ)) (a : List ℕ) → AllByRecursion IsName xs → IsName a → AllByRecursion IsName (xs ++ a ∷ [])
+names_end [] a all name = (name, tt)
+names_end (x ∷ xs) a all name = (all.0, names_end xs a all.1 name)
+
+with_by : (atoms : List (List ℕ)) (a : List ℕ) (most : ℕ) (t : Bool) → is_among a atoms ≡ t → Table atoms most → IsName a → Table (if t then atoms else atoms ++ a ∷ []) (most + 1)
+with_by atoms a most true is table name = record { distinct = table.distinct; names = table.names; few = (let few = table.few in omega arith) }
+with_by atoms a most false is table name =
+    record {
+      distinct = follow_end [] atoms a table.distinct is;
+      names = names_end atoms a table.names name;
+      few = (let few = table.few in let more = length-append atoms (a ∷ []) in omega arith);
+    }
+
+table_with : (atoms : List (List ℕ)) (a : List ℕ) (most : ℕ) → Table atoms most → IsName a → Table (with_atom atoms a) (most + 1)
+table_with atoms a most table name = with_by atoms a most (is_among a atoms) refl table name
+
+table_names : (atoms names : List (List ℕ)) (most : ℕ) → Table atoms most → AllByRecursion IsName names → Table (with_names atoms names) (most + length names)
+table_names atoms [] most table all = record { distinct = table.distinct; names = table.names; few = (let few = table.few in omega arith) }
+table_names atoms (n ∷ ns) most table all =
+    let more = table_names (with_atom atoms n) ns (most + 1) (table_with atoms n most table all.0) all.1 in
+    record { distinct = more.distinct; names = more.names; few = (let few = more.few in omega arith) }
+
+first_names : AllByRecursion IsName first_atoms
+unfolding is_utf8 chars lib.Utf8.encode
+first_names = (refl, (refl, (refl, (refl, (refl, (refl, (refl, (refl, (refl, (refl, (refl, (refl, (refl, (refl, tt))))))))))))))
+
+first_table : Table first_atoms 14
+first_table = table_names [] first_atoms 0 (record { distinct = tt; names = tt; few = omega arith }) first_names
+
+length-map_names : {A : Type 0} (f : A → List ℕ) (xs : List A) → length (map f xs) ≡ length xs
+length-map_names f [] = refl
+length-map_names f (x ∷ xs) = let rest = length-map_names f xs in omega arith
+
+atoms_table : (m : Module) → IsCompilable m → Table (atoms_of m) (14 + 1 + length (map export_name m.exports) + length (map function_name m.functions))
+atoms_table m ok =
+    table_names (with_names (with_atom first_atoms m.name) (map export_name m.exports)) (map function_name m.functions) (14 + 1 + length (map export_name m.exports))
+    (table_names (with_atom first_atoms m.name) (map export_name m.exports) (14 + 1) (table_with first_atoms m.name 14 first_table ok.name) ok.export_names)
+    ok.function_names
+
+-- native functions one after the other
+follow_natives : (from n : ℕ) → Follow NativeFits after_native (turn from (constant_length * from)) (natives_from from n)
+follow_natives from zero = tt
+follow_natives from (suc n) =
+    let next : constant_length * from + constant_length ≡ constant_length * (from + 1) = omega arith in (
+      record { ascends = omega arith; place = refl; some = omega arith },
+      subst (λ place. Follow NativeFits after_native (turn (from + 1) place) (natives_from (from + 1) n)) (sym next) (follow_natives (from + 1) n),
+    )
+
+count_natives : (from n : ℕ) → total_count (natives_from from n) ≡ constant_length * n
+count_natives from zero = refl
+count_natives from (suc n) = let rest = count_natives (from + 1) n in omega arith
+
+length-natives_from : (from n : ℕ) → length (natives_from from n) ≡ n
+length-natives_from from zero = refl
+length-natives_from from (suc n) = let rest = length-natives_from (from + 1) n in omega arith
+
+sized_natives : (from n : ℕ) → from + n ≤ most_units → AllByRecursion IsSizedNative (natives_from from n)
+sized_natives from zero low = tt
+sized_natives from (suc n) low = (record { fid = omega arith; first = omega arith; count = omega arith }, sized_natives (from + 1) n (omega arith))
+
+-- code words are words
+all_append : {A : Type 0} (P : A → Type 0) (xs ys : List A) → AllByRecursion P xs → AllByRecursion P ys → AllByRecursion P (xs ++ ys)
+all_append P [] ys a b = b
+all_append P (x ∷ xs) ys a b = (a.0, all_append P xs ys a.1 b)
+
+words_below : (is : List Instr) → AllByRecursion IsInWidth is → AllByRecursion IsWord (map encoded is)
+words_below [] all = tt
+words_below (i ∷ is) all = (encoded_below i all.0, words_below is all.1)
+
+entry_width : (cost : ℕ) → cost ≤ 513 → AllByRecursion IsInWidth (entry_instrs cost)
+entry_width cost low =
+    ((omega arith, omega arith, omega arith), (omega arith, ((omega arith, omega arith), ((omega arith, omega arith, omega arith), ((omega arith, omega arith, omega arith), ((omega arith, omega arith, omega arith), (omega arith, ((omega arith, omega arith), tt))))))))
+
+return_width : (w : ℕ) → w < 2 ^ 32 → AllByRecursion IsInWidth (return_instrs w)
+return_width w low = ((omega arith, omega arith), ((omega arith, omega arith, omega arith), ((omega arith, omega arith, omega arith), tt)))
+
+end_width : AllByRecursion IsInWidth end_instrs
+end_width = ((omega arith, omega arith, omega arith), ((omega arith, omega arith), ((omega arith, omega arith, omega arith), ((omega arith, omega arith), tt))))
+
+words_are : (f : Function) → IsReady f → AllByRecursion IsWord (words_of f)
+words_are f ready =
+    words_below (constant_instrs (value_of f) (cost_of f))
+    (all_append IsInWidth (entry_instrs (cost_of f)) (return_instrs (small_word (value_of f)) ++ end_instrs) (entry_width (cost_of f) ready.frame)
+    (all_append IsInWidth (return_instrs (small_word (value_of f))) end_instrs (return_width (small_word (value_of f)) (small_word-below (value_of f) ready.small)) end_width))
+
+code_is : (fs : List Function) → AllByRecursion IsReady fs → AllByRecursion IsWord (code_of fs)
+code_is [] all = tt
+code_is (f ∷ fs) all = all_append IsWord (words_of f) (code_of fs) (words_are f all.0) (code_is fs all.1)
+
+pub compiled_fits : (m : Module) → IsCompilable m → IsFitting (compiled m)
+compiled_fits m ok =
+    let table = atoms_table m ok in
+    let functions = few m ok in
+    let named = length-map_names export_name m.exports in
+    let called = length-map_names function_name m.functions in
+    let exports = ok.exports in
+    let all = length-code_of m.functions in
+    record {
+      some_module = omega arith;
+      modules = omega arith;
+      text_bytes = (let text = ok.text in omega arith);
+      atoms = (let most = table.few in omega arith);
+      distinct = table.distinct;
+      literals = omega arith;
+      roots = omega arith;
+      natives = (let count = length-natives_from 0 (length m.functions) in omega arith);
+      native_places = follow_natives 0 (length m.functions);
+      code = omega arith;
+      code_of_natives = all ∙ sym (count_natives 0 (length m.functions));
+      descriptors = omega arith;
+      sites = tt;
+    }
+
+pub compiled_sized : (m : Module) → IsCompilable m → IsSized (compiled m)
+compiled_sized m ok =
+    record {
+      atoms = (atoms_table m ok).names;
+      literals = tt;
+      roots = tt;
+      natives = (let most = few m ok in sized_natives 0 (length m.functions) (omega arith));
+      code = code_is m.functions ok.functions;
+      descriptors = tt;
+    }

@@ -1,0 +1,8 @@
+pub mod Places
+pub mod Steps
+pub mod Paths
+pub mod Rows
+pub mod Calls
+pub mod Law
+pub mod CompiledLaw
+pub mod FittingLaw

@@ -1,0 +1,75 @@
+-- Images of functions that each return a small integer (docs/BEAM.md, Constant functions).
+use Rattle.std.specs.Prelude.{ℕ, ℤ, ◌≡◌, ◌≢◌, ◌+◌, ◌≤◌, List, length, map, Some, slice_get}
+use Rattle.beam_code.specs.declared.instr.Instr.TheVariants.{Move, Return}
+use Rattle.beam_code.specs.declared.instr.Operand.TheVariants.{Int}
+use Rattle.beam_code.specs.declared.instr.Place.TheVariants as place
+use Rattle.beam_code.specs.declared.module.Function.{Function}
+use Rattle.beam_code.specs.declared.module.Module.{Module}
+use Rattle.beam_code.specs.Function.{Placed, function_at, items_of, cost_of}
+use Rattle.constant_code.specs.Words.{constant_words}
+use Rattle.beam_code.specs.Frame.{beam_step}
+use Rattle.beam_code.specs.Meaning.{first_state}
+use Rattle.beam_code.specs.State as b
+use Rattle.faithful_image.specs.Call.{Call, IsFitting, meaning_of}
+use Rattle.faithful_image.specs.Faithful.{IsFaithful}
+use Rattle.small_step.specs.Stage.{Stage, Still, Done, IfDone, run}
+use Rattle.mode_switch.specs.Place.{native_first}
+use Rattle.native_link.specs.declared.limits.TheConstants.{MOST_FRAME, MOST_CODE}
+use Rattle.native_link.specs.declared.parts.Parts.{Parts}
+use Rattle.tagged_words.specs.Word.{IsSmall}
+
+-- a function of no arguments that moves a small integer to x0 and returns
+pub record IsConstant (f : Function) (value : ℤ) : Type 0 where
+  pub small : IsSmall value
+  pub arity : f.arity ≡ 0
+  pub frame : cost_of f ≤ MOST_FRAME
+  pub move_line : ℕ
+  pub moves : slice_get f.items (f.entry + 1) ≡ Some (record { line = move_line; instr = Move (Int value) (place.X 0) })
+  pub return_line : ℕ
+  pub returns : slice_get f.items (f.entry + 2) ≡ Some (record { line = return_line; instr = Return })
+
+-- the code words of a function stand at its native entry
+pub record IsPlaced (parts : Parts) (fid : ℕ) (words : List ℕ) : Type 0 where
+  pub first : ℕ
+  pub found : native_first parts.natives fid ≡ Some first
+  pub stands : (j : ℕ) (w : ℕ) → slice_get words j ≡ Some w → slice_get parts.code (first + j) ≡ Some w
+
+-- each function returns a constant, and is in native form
+pub record IsConstantFunction (parts : Parts) (fid : ℕ) (f : Function) : Type 0 where
+  pub value : ℤ
+  pub constant : IsConstant f value
+  pub placed : IsPlaced parts fid (constant_words value (cost_of f))
+
+-- how many items there may be: their addresses lie below the code
+abbrev pub most_items : ℕ
+most_items = 8388608
+
+pub record IsConstantImage (ms : List Module) (parts : Parts) : Type 0 where
+  pub texts : parts.texts ≡ map (λ m. m.text) ms
+  pub functions : (fid : ℕ) (p : Placed) → function_at ms fid ≡ Some p → IsConstantFunction parts fid p.function
+  pub items : items_of ms ≤ most_items
+  pub code : length parts.code ≤ MOST_CODE
+
+-- each function of the modules returns a constant
+abbrev pub AreConstant : List Module → Type 0
+AreConstant ms = (fid : ℕ) (p : Placed) → function_at ms fid ≡ Some p → (value : ℤ) × IsConstant p.function value
+
+-- a run that ended did not end because a row was stuck
+abbrev pub IsSound : b.Finish → Type 0
+IsSound f = f.outcome ≢ b.Ended b.Stuck
+
+abbrev pub IsOutcome : Stage b.BeamState b.Finish → Type 0
+IsOutcome (Still s) = ⊥
+IsOutcome (Done f) = IsSound f
+
+-- the meaning of a call is an outcome, and no row on the way is stuck
+pub record HasMeaning (ms : List Module) (call : Call) : Type 0 where
+  pub outcome : IsOutcome (meaning_of ms call)
+  pub never_stuck : (n : ℕ) → IfDone (run (beam_step ms call.limits) n (first_state ms call.limits call.function call.args)) IsSound
+
+abbrev pub ConstantsHaveMeanings : Type 0
+ConstantsHaveMeanings = (ms : List Module) → AreConstant ms → (call : Call) → IsFitting ms call → HasMeaning ms call
+
+-- such an image does what its texts say
+abbrev pub ConstantsAreFaithful : Type 0
+ConstantsAreFaithful = (ms : List Module) (parts : Parts) → IsConstantImage ms parts → IsFaithful ms (map (λ n. n.fid) parts.natives) parts

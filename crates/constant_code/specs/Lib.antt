@@ -1,0 +1,3 @@
+pub mod Words
+pub mod Image
+pub mod Compiled
