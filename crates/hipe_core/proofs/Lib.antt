@@ -1,0 +1,4 @@
+pub mod SayingLaws
+pub mod PlainLaw
+pub mod ImageLaw
+pub mod CommandLaw

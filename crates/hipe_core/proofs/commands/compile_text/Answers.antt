@@ -1,0 +1,20 @@
+-- The module of a plain text is compiled, and its image is one of the text.
+use Rattle.std.proofs.Common.{sym, subst}
+use Rattle.constant_code.specs.Compiled.{IsCompilable}
+use Rattle.hipe_core.proofs.commands.compile_text.Goals as goal
+use Rattle.hipe_core.proofs.PlainLaw.{plain_compiles}
+use Rattle.hipe_core.proofs.CommandLaw.{writes_text}
+use Rattle.hipe_core.specs.Saying.{seen}
+
+pub write_image-requires : goal.write_image-requires
+write_image-requires g c =
+    let read = rw c.in-Ok-Some.field-0-is at c.in-Ok-Some.ensures in
+    subst IsCompilable (sym read.1.2) (plain_compiles c.args.text.now read.0 read.1.0 read.1.1 c.requires)
+
+pub returns-in-Ok-Some : goal.returns-in-Ok-Some
+returns-in-Ok-Some g c =
+    let read = rw c.in-Ok-Some.field-0-is at c.in-Ok-Some.ensures in
+    writes_text c.args.text.now c.in-Ok-Some.source c.write_image.result
+    (seen (g.O.Sink.written c.args.out.now) (g.O.Sink.room c.args.out.now) (g.O.Sink.faults c.args.out.now))
+    (seen (g.O.Sink.written c.write_image.new.out) (g.O.Sink.room c.write_image.new.out) (g.O.Sink.faults c.write_image.new.out))
+    read c.write_image.ensures

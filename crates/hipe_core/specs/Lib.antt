@@ -1,0 +1,5 @@
+pub mod Image
+pub mod Saying
+pub mod Command
+pub mod Asking
+pub mod Running

@@ -1,0 +1,21 @@
+-- How a refusal of an image ends a command (docs/COMMANDS.md, run).
+use Rattle.hipe_core.specs.Command.{IsFlaw}
+use Rattle.hipe_core.specs.declared.ending.Ending.{Ending}
+use Rattle.hipe_core.specs.declared.ending.Ending.TheVariants.{NotBuilt, Refused, NoMemory}
+use Rattle.native_link.specs.declared.refusal.ImageRefusal.{ImageRefusal}
+use Rattle.native_link.specs.declared.refusal.ImageRefusal.TheVariants as fault
+
+-- the ending of a refusal
+abbrev pub IsNotBuilt : ImageRefusal → Type 0
+IsNotBuilt fault.NotBuilt = Unit {0}
+IsNotBuilt _ = ⊥
+
+abbrev pub IsMemory : ImageRefusal → Type 0
+IsMemory (fault.Memory e) = Unit {0}
+IsMemory _ = ⊥
+
+abbrev pub RefusedAs : ImageRefusal → Ending → Type 0
+RefusedAs e (Refused f at) = IsFlaw e f at
+RefusedAs e NotBuilt = IsNotBuilt e
+RefusedAs e NoMemory = IsMemory e
+RefusedAs e _ = ⊥
