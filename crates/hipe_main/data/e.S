@@ -1,0 +1,4 @@
+{module, e}.
+{exports, []}.
+{attributes, []}.
+{labels, 1}.
