@@ -1,0 +1,4 @@
+{module, empty}.
+{exports, []}.
+{attributes, []}.
+{labels, 1}.
