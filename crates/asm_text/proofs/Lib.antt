@@ -9,3 +9,14 @@ pub mod NextCanonical
 pub mod StepCanonical
 pub mod ProgressCanonical
 pub mod Written
+pub mod FewForms
+pub mod OneReading
+pub mod Remaining
+pub mod Spelled
+pub mod SpelledArguments
+pub mod Leading
+pub mod Refused
+pub mod RefusedForms
+pub mod RefusedArguments
+pub mod AtomSizes
+pub mod EntryNames

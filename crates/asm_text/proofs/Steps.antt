@@ -12,18 +12,18 @@ use Rattle.asm_text.specs.declared.stand.Ending.{Ending}
 use Rattle.asm_text.specs.declared.stand.Move.{Move}
 use Rattle.asm_text.specs.declared.stand.Move.TheVariants.{Goes, Gives}
 use Rattle.asm_text.specs.declared.reading.Progress.{Progress}
-use Rattle.asm_text.specs.Pieces.{piece}
+use Rattle.asm_text.specs.Pieces.{piece, is_separator}
 use Rattle.asm_text.specs.Tokens.{Tokens, Stop, Bad as BadToken, More, tokens_after, line_after}
 use Rattle.asm_text.specs.Reading.{ending, with_forms, step, before_form, refusal_at, Meets}
 use Rattle.asm_text.specs.Progress.{comes_to, Comes}
 use Rattle.asm_text.proofs.Refusals.{Meets-refused}
 
 -- forms before forms
-with_forms-twice : (fs gs : List Form) (r : Result Ending TextRefusal) → with_forms fs (with_forms gs r) ≡ with_forms (fs ++ gs) r
+pub with_forms-twice : (fs gs : List Form) (r : Result Ending TextRefusal) → with_forms fs (with_forms gs r) ≡ with_forms (fs ++ gs) r
 with_forms-twice fs gs (Err refusal) = refl
 with_forms-twice fs gs (Ok end) = rw append_assoc
 
-with_forms-none : (r : Result Ending TextRefusal) → with_forms [] r ≡ r
+pub with_forms-none : (r : Result Ending TextRefusal) → with_forms [] r ≡ r
 with_forms-none (Err refusal) = refl
 with_forms-none (Ok end) = refl
 
@@ -94,6 +94,24 @@ tokens-bad skip before line bs b rest reason e h is =
     let c : piece (b ∷ rest) ≡ Bad reason = rw e at is in
     rw (e, t, c)
 
+-- a separator is a piece of its own
+pub tokens-separator : (skip before line : ℕ) (bs : List ℕ) (b : ℕ) (rest : List ℕ) → bs ≡ b ∷ rest → skip ≤ 0 → is_separator b ≡ true →
+    tokens_after skip before line bs ≡ tokens_after skip line (line_after line b) rest
+unfolding piece
+tokens-separator skip before line bs b rest e h is =
+    let t : nat_lt 0 skip ≡ false = grind arith in
+    let none : skip ≡ 0 = omega arith in
+    rw (e, t, is, none)
+
+-- and so is a token of one byte
+pub tokens-byte : (skip before line : ℕ) (bs : List ℕ) (b : ℕ) (rest : List ℕ) (token : Token) → bs ≡ b ∷ rest → skip ≤ 0 → ((r : List ℕ) → piece (b ∷ r) ≡ Whole token 1) →
+    tokens_after skip before line bs ≡ More line token (tokens_after skip line (line_after line b) rest)
+tokens-byte skip before line bs b rest token e h is =
+    let t : nat_lt 0 skip ≡ false = grind arith in
+    let none : skip ≡ 0 = omega arith in
+    let c : piece (b ∷ rest) ≡ Whole token 1 = is rest in
+    rw (e, t, c, none)
+
 pub tokens-stop : (skip before line : ℕ) (bs : List ℕ) → length bs ≡ 0 → tokens_after skip before line bs ≡ Stop before
 tokens-stop skip before line bs e = let n : bs ≡ [] = nil_from_length bs e in rw n
 
@@ -109,4 +127,4 @@ pub comes-stop : (p : Progress) (line : ℕ) → comes_to p (Stop line) ≡ Ok (
 unfolding comes_to
 comes-stop p line = rw append-nil
 
-pub ruleset token_steps = (tokens-skip, tokens-blank, tokens-whole, tokens-bad, tokens-stop, comes-start, comes-bad, comes-stop, Meets-refused)
+pub ruleset token_steps = (tokens-skip, tokens-separator, tokens-byte, tokens-blank, tokens-whole, tokens-bad, tokens-stop, comes-start, comes-bad, comes-stop, Meets-refused)

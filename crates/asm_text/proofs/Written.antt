@@ -78,7 +78,7 @@ reached s line token outer inner last e = record {
   runs = (λ rest. ending-goes s (record { outer = outer; inner = inner; last = last; looseness = looseness_after s.looseness token; line = form_line s.looseness s.line line }) line token rest e);
 }
 
-stepped : (s : Stand) (line : ℕ) (token : Token) (n : Next) → refused_itself (is_loose s.looseness) line (length s.outer) token ≡ None → next s.inner s.last token ≡ Some n →
+pub stepped : (s : Stand) (line : ℕ) (token : Token) (n : Next) → refused_itself (is_loose s.looseness) line (length s.outer) token ≡ None → next s.inner s.last token ≡ Some n →
     step s line token ≡ Ok (moved s.outer (looseness_after s.looseness token) (form_line s.looseness s.line line) n)
 unfolding step
 stepped s line token n e h =
@@ -122,14 +122,14 @@ ends s outer inner line token term same e h =
 
 -- ---- tests
 
-wanted : (inner : Open) (last : Last) (n : Next) → takes_terms inner ≡ true → is_free last ≡ true → (if wants_term inner last then Some n else None) ≡ Some n
+pub wanted : (inner : Open) (last : Last) (n : Next) → takes_terms inner ≡ true → is_free last ≡ true → (if wants_term inner last then Some n else None) ≡ Some n
 wanted inner last n e h = rw (e, h)
 
 room_left : (line count room : ℕ) → count + suc room ≤ 200 → (if nat_le 200 count then Some (Deep line) else None) ≡ None
 room_left line count room h = let far : nat_le 200 count ≡ false = grind arith in rw far
 
 -- the term that stands last ends its brackets
-all_last : (items : List Term) (last : Last) (term : Term) → last_term last ≡ Some term → all_terms items last ≡ Some (items ++ term ∷ [])
+pub all_last : (items : List Term) (last : Last) (term : Term) → last_term last ≡ Some term → all_terms items last ≡ Some (items ++ term ∷ [])
 all_last items l.Bracket term e = absurd (cc)
 all_last items l.Mark term e = absurd (cc)
 all_last items (l.Term other) term e = let same : other ≡ term = cc in rw same refl
@@ -140,10 +140,10 @@ pub record Collects (make : List Term → Open) : Type 0 where
   pub takes : (items : List Term) → takes_terms (make items) ≡ true
   pub comma : (items : List Term) (term : Term) → comma_after (make items) term ≡ Some (x.Stays (make (items ++ term ∷ [])) l.Mark)
 
-collects_tuple : Collects o.Tuple
+pub collects_tuple : Collects o.Tuple
 collects_tuple = record { takes = (λ items. refl); comma = (λ items term. refl) }
 
-collects_list : Collects o.List
+pub collects_list : Collects o.List
 collects_list = record { takes = (λ items. refl); comma = (λ items term. refl) }
 
 pub collects_arguments : Collects o.ArgumentList
@@ -237,7 +237,7 @@ as_term : (s : Stand) (a : Lined) (ts : List Lined) (value : Term) → Reaches s
 as_term s a ts value r = record { last = l.Term value; is = refl; reaches = r }
 
 -- the term that stands last, where a mark or a bracket comes
-then_some : {A B : Type 0} (f : A → Option B) (found : Option A) (a : A) (b : B) → found ≡ Some a → f a ≡ Some b → option_and_then f found ≡ Some b
+pub then_some : {A B : Type 0} (f : A → Option B) (found : Option A) (a : A) (b : B) → found ≡ Some a → f a ≡ Some b → option_and_then f found ≡ Some b
 then_some f found a b e h = ap (option_and_then f) e ∙ h
 
 read_tuple : (loose : Bool) (room line end : ℕ) (all : List Term) (ts : List Lined) → Goal loose room (Terms all) ts →
@@ -537,7 +537,7 @@ read_form : (term : Term) (ts : List Lined) → IsForm term ts → (rest : Token
 read_form _ _ (strict_form term ts dot d) rest = read_strict term ts dot d rest
 read_form _ _ (loose_form brace percent comma end dot all ts d) rest = read_loose brace percent comma end dot all ts d rest
 
-read_forms_from : (forms : List Form) (ts : List Lined) (line : ℕ) → AreForms forms ts → ending before_form (lined ts (Stop line)) ≡ Ok (record { forms = forms; stand = before_form; line = line })
+pub read_forms_from : (forms : List Form) (ts : List Lined) (line : ℕ) → AreForms forms ts → ending before_form (lined ts (Stop line)) ≡ Ok (record { forms = forms; stand = before_form; line = line })
 read_forms_from _ _ line no_forms = refl
 read_forms_from _ _ line (more_forms term forms ts us d e) =
     ap (ending before_form) (lined-joined ts us (Stop line))
@@ -550,7 +550,7 @@ reading-written text forms (ts, line, is, d) = ap forms_of (ap (ending before_fo
 
 -- ---- arguments
 
-out_list : (terms : List Term) → out-Term (t.List terms None) ≡ Term-F.List terms None
+pub out_list : (terms : List Term) → out-Term (t.List terms None) ≡ Term-F.List terms None
 unfolding roll-Term roll
 out_list terms = out-roll-Term (Term-F.List terms None)
 
@@ -559,7 +559,7 @@ ended : (s : Stand) (terms : List Term) (ts : List Lined) (first line : ℕ) →
     arguments_of (ending before_arguments (lined ts (Stop line))) ≡ Ok terms
 ended s terms ts first line out r = ap arguments_of (r.runs (Stop line)) ∙ ap (items_of line) (out_list terms)
 
-read_arguments : (terms : List Term) (ts : List Lined) (line : ℕ) → AreArguments terms ts → arguments_of (ending before_arguments (lined ts (Stop line))) ≡ Ok terms
+pub read_arguments : (terms : List Term) (ts : List Lined) (line : ℕ) → AreArguments terms ts → arguments_of (ending before_arguments (lined ts (Stop line))) ≡ Ok terms
 read_arguments _ _ n (no_arguments line end) =
     let ready : Ready false 200 before_arguments = record { free = refl; space = omega arith; places = (λ e. absurd (cc)) } in
     ended before_arguments [] (at line k.OpenList ∷ at end k.CloseBracket ∷ []) line n refl

@@ -8,3 +8,5 @@ pub mod Class
 pub mod Progress
 pub mod Canonical
 pub mod Spelling
+pub mod Entry
+pub mod InPlace

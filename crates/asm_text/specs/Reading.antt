@@ -35,6 +35,14 @@ abbrev pub refusal_at : ℕ → Reason → TextRefusal
 refusal_at line r.Syntax = Syntax line
 refusal_at line (r.OfKind kind) = Kind line kind
 
+-- the line of a refusal, but of one for want of memory
+abbrev pub line_of : TextRefusal → Option ℕ
+line_of (Syntax line) = Some line
+line_of (Wide line) = Some line
+line_of (Kind line kind) = Some line
+line_of (Deep line) = Some line
+line_of (Memory e) = None
+
 -- whether all places from here to the form's dot are loose
 abbrev pub is_loose : Looseness → Bool
 is_loose places.Loose = true

@@ -1,15 +1,16 @@
 -- How terms and forms are written, as a relation between them and tokens at their lines (Erlang reference manual, Data
 -- Types; docs/TEXT.md).
-use Rattle.std.specs.Prelude.{ℕ, ℤ, suc, ◌≡◌, Bool, true, false, List, [], ◌∷◌, ◌++◌, None, Result, Ok}
+use Rattle.std.specs.Prelude.{ℕ, ℤ, suc, ◌≡◌, Bool, true, false, List, [], ◌∷◌, ◌++◌, Some, None, Result, Ok, Err}
 use Rattle.term_tree.specs.declared.term.Term as t
 use Rattle.term_tree.specs.declared.term.Term.{Term}
 use Rattle.asm_text.specs.declared.token.Token.{Token}
 use Rattle.asm_text.specs.declared.token.Token.TheVariants as k
 use Rattle.asm_text.specs.declared.stand.Form.{Form}
 use Rattle.asm_text.specs.declared.token.TextRefusal.{TextRefusal}
-use Rattle.asm_text.specs.Reading.{Meets}
+use Rattle.asm_text.specs.declared.token.TextRefusal.TheVariants.{Syntax, Memory}
+use Rattle.asm_text.specs.Reading.{Meets, refusal_at, line_of}
 use Rattle.asm_text.specs.Grammar.{with_tail, stand_in}
-use Rattle.asm_text.specs.Tokens.{Tokens, Stop, More, tokens}
+use Rattle.asm_text.specs.Tokens.{Tokens, Stop, Bad, More, tokens}
 
 -- a token at its line
 pub record Lined : Type 0 where
@@ -102,3 +103,20 @@ ReadsForms text answer = (forms : List Form) → IsTextOf text forms → Meets a
 
 abbrev pub ReadsArguments : List ℕ → Result (List Term) TextRefusal → Type 0
 ReadsArguments text answer = (terms : List Term) → IsTextOfArguments text terms → Meets answer (Ok terms)
+
+-- tokens that some further ones make a text of forms, or of arguments: `Are` is one of the two relations
+abbrev pub Begins : {A : Type 0} → (A → List Lined → Type 0) → List Lined → Type 0
+Begins {A = A} Are ts = (us : List Lined) × (all : A) × Are all (ts ++ us)
+
+-- why a refusal comes after these tokens, by what comes there: the text ends too early; bytes that are no token; or a
+-- token that cannot follow
+abbrev pub IsRefusedAt : {A : Type 0} → (A → List Lined → Type 0) → TextRefusal → List Lined → Tokens → Type 0
+IsRefusedAt {A = A} Are refusal ts (Stop line) = (refusal ≡ Syntax line) × ((all : A) → ¬ (Are all ts))
+IsRefusedAt Are refusal ts (Bad line reason) = refusal ≡ refusal_at line reason
+IsRefusedAt Are refusal ts (More line token rest) = (line_of refusal ≡ Some line) × ¬ (Begins Are (ts ++ at line token ∷ []))
+
+-- whatever refusal the answer is, the text could go on up to it, and not over it; but for want of memory
+abbrev pub Refuses : {A : Type 0} → (A → List Lined → Type 0) → List ℕ → Result A TextRefusal → Type 0
+Refuses Are text (Ok all) = Unit {0}
+Refuses Are text (Err (Memory e)) = Unit {0}
+Refuses Are text (Err refusal) = (ts : List Lined) × (rest : Tokens) × (tokens text ≡ lined ts rest) × Begins Are ts × IsRefusedAt Are refusal ts rest

@@ -1,13 +1,17 @@
-ghost use Rattle.std.specs.Prelude.{◌≡◌, ◌++◌, ◌∷◌, [], IfOk, option_and_then};
+ghost use Rattle.std.specs.Prelude.{◌≡◌, ◌++◌, ◌∷◌, [], IfOk, OnOk, option_map, option_and_then, if◌then◌else◌};
 ghost use Rattle.asm_text.specs.Grammar as grammar;
+ghost use Rattle.asm_text.specs.Reading as reading;
+ghost use Rattle.asm_text.specs.InPlace.{effect, goes_to, moved_from, stays};
 
-use crate::stand::{Last, Next, Open};
+use crate::stand::{Effect, Last, Move, Next, Open, Stand};
 use crate::token::Token;
 use sqlite_items::{Boxed, Items};
 use std::alloc::{AllocError, Global};
+use std::mem;
 use term_tree::Term;
 
-// What each token does to the innermost open construct; `None` where it cannot follow.
+// What each token does to a reading, in place: `true` where it can follow. Where it can't, how the
+// reading stands says nothing.
 
 fn takes_terms(inner: &Open) -> bool
     ensures { result ≡ grammar.takes_terms inner.now }
@@ -57,133 +61,138 @@ fn with_terms(items: Items<Term>, more: Items<Term>) -> Result<Items<Term>, Allo
     Ok(items)
 }
 
-/// The terms in brackets that close now.
-fn all_terms(items: Items<Term>, last: Last) -> Result<Option<Items<Term>>, AllocError>
-    ensures { IfOk result (λ all. all ≡ grammar.all_terms items last) }
+/// Puts what stands last after the terms before it, in brackets that close now.
+fn add_last(items: &mut Items<Term>, last: Last) -> Result<bool, AllocError>
+    ensures { IfOk result (λ fits. (if fits then Some items.new else None) ≡ grammar.all_terms items.old last) }
 {
     match last {
-        Last::Bracket => Ok(Some(items)),
-        Last::Mark => Ok(None),
-        Last::Term(term) => Ok(Some(with_term(items, term)?)),
-        Last::Text(codes) => Ok(Some(with_term(items, Term::List(codes, None))?)),
+        Last::Bracket => (),
+        Last::Mark => return Ok(false),
+        Last::Term(term) => items.push(term)?,
+        Last::Text(codes) => items.push(Term::List(codes, None))?,
     }
+    Ok(true)
 }
 
-#[inline(never)]
-fn after_term(inner: Open, last: Last, term: Term) -> Option<Next>
-    ensures { result ≡ grammar.after_term inner last term }
+fn after_term(inner: &Open, last: &mut Last, term: Term) -> bool
+    ensures { stays result inner.now last.new ≡ grammar.after_term inner.now last.old term }
 {
-    if takes_terms(&inner) && is_free(&last) {
-        Some(Next::Stays(inner, Last::Term(term)))
+    if takes_terms(inner) && is_free(last) {
+        *last = Last::Term(term);
+        true
     } else {
-        None
+        false
     }
 }
 
-fn first_text(inner: Open, codes: Items<Term>) -> Option<Next>
-    ensures { result ≡ grammar.after_text inner Last.Mark codes }
+/// A string; adjacent strings join.
+#[inline(never)]
+fn after_text(inner: &Open, last: &mut Last, codes: Items<Term>) -> Result<bool, AllocError>
+    ensures { IfOk result (λ goes. stays goes inner.now last.new ≡ grammar.after_text inner.now last.old codes) }
 {
-    if takes_terms(&inner) {
-        Some(Next::Stays(inner, Last::Text(codes)))
+    let codes = match mem::replace(last, Last::Mark) {
+        Last::Text(before) => {
+            *last = Last::Text(with_terms(before, codes)?);
+            return Ok(true);
+        }
+        Last::Term(_) => return Ok(false),
+        Last::Bracket | Last::Mark => codes,
+    };
+    if takes_terms(inner) {
+        *last = Last::Text(codes);
+        Ok(true)
     } else {
-        None
+        Ok(false)
     }
 }
 
-#[inline(never)]
-fn after_text(inner: Open, last: Last, codes: Items<Term>) -> Result<Option<Next>, AllocError>
-    ensures { IfOk result (λ next. next ≡ grammar.after_text inner last codes) }
+fn after_open(stand: &mut Stand, new: Open) -> Result<bool, AllocError>
+    ensures { IfOk result (λ goes. goes_to goes stand.new ≡ option_map (moved_from stand.old) (grammar.after_open stand.old.inner stand.old.last new)) }
 {
-    match last {
-        Last::Text(before) => Ok(Some(Next::Stays(inner, Last::Text(with_terms(before, codes)?)))),
-        Last::Term(_) => Ok(None),
-        Last::Bracket => Ok(first_text(inner, codes)),
-        Last::Mark => Ok(first_text(inner, codes)),
-    }
-}
-
-#[inline(never)]
-fn after_open(inner: Open, last: Last, new: Open) -> Option<Next>
-    ensures { result ≡ grammar.after_open inner last new }
-{
-    if takes_terms(&inner) && is_free(&last) {
-        Some(Next::Begins(inner, new))
+    if takes_terms(&stand.inner) && is_free(&stand.last) {
+        begin(stand, new)?;
+        Ok(true)
     } else {
-        None
+        Ok(false)
     }
 }
 
-#[inline(never)]
-fn after_open_list(alloc: Global, inner: Open, last: Last) -> Option<Next>
-    ensures { result ≡ grammar.after_open_list inner last }
+/// The innermost construct keeps its state, and a new one begins in it.
+fn begin(stand: &mut Stand, new: Open) -> Result<(), AllocError>
+    ensures { OnOk result (Move.Goes stand.new ≡ moved_from stand.old (Next.Begins stand.old.inner new)) }
+{
+    stand.last = Last::Bracket;
+    let inner = mem::replace(&mut stand.inner, new);
+    stand.outer.push(inner)
+}
+
+fn after_open_list(alloc: Global, stand: &mut Stand) -> Result<bool, AllocError>
+    ensures { IfOk result (λ goes. goes_to goes stand.new ≡ option_map (moved_from stand.old) (grammar.after_open_list stand.old.inner stand.old.last)) }
+{
+    match &stand.inner {
+        Open::Arguments => match &stand.last {
+            Last::Mark => {
+                begin(stand, Open::ArgumentList(Items::new(alloc)))?;
+                Ok(true)
+            }
+            Last::Bracket | Last::Term(_) | Last::Text(_) => Ok(false),
+        },
+        _ => after_open(stand, Open::List(Items::new(alloc))),
+    }
+}
+
+fn comma_after(inner: &mut Open, term: Term) -> Result<bool, AllocError>
+    ensures { IfOk result (λ goes. stays goes inner.new Last.Mark ≡ grammar.comma_after inner.old term) }
 {
     match inner {
-        Open::Arguments => match last {
-            Last::Mark => Some(Next::Begins(
-                Open::Arguments,
-                Open::ArgumentList(Items::new(alloc)),
-            )),
-            Last::Bracket | Last::Term(_) | Last::Text(_) => None,
-        },
-        inner => after_open(inner, last, Open::List(Items::new(alloc))),
-    }
-}
-
-fn comma_after(inner: Open, term: Term) -> Result<Option<Next>, AllocError>
-    ensures { IfOk result (λ next. next ≡ grammar.comma_after inner term) }
-{
-    let inner = match inner {
-        Open::ArgumentList(items) => Open::ArgumentList(with_term(items, term)?),
-        Open::Tuple(items) => Open::Tuple(with_term(items, term)?),
-        Open::List(items) => Open::List(with_term(items, term)?),
-        Open::Value => Open::Key,
-        Open::Form | Open::Arguments | Open::Tail(_) | Open::Key => return Ok(None),
+        Open::ArgumentList(items) => items.push(term)?,
+        Open::Tuple(items) => items.push(term)?,
+        Open::List(items) => items.push(term)?,
+        Open::Value => *inner = Open::Key,
+        Open::Form | Open::Arguments | Open::Tail(_) | Open::Key => return Ok(false),
     };
-    Ok(Some(Next::Stays(inner, Last::Mark)))
+    Ok(true)
 }
 
-#[inline(never)]
-fn after_comma(inner: Open, last: Last) -> Result<Option<Next>, AllocError>
-    ensures { IfOk result (λ next. next ≡ option_and_then (grammar.comma_after inner) (grammar.last_term last)) }
+fn after_comma(inner: &mut Open, last: &mut Last) -> Result<bool, AllocError>
+    ensures { IfOk result (λ goes. stays goes inner.new last.new ≡ option_and_then (grammar.comma_after inner.old) (grammar.last_term last.old)) }
 {
-    match last_term(last) {
-        None => Ok(None),
+    match last_term(mem::replace(last, Last::Mark)) {
+        None => Ok(false),
         Some(term) => comma_after(inner, term),
     }
 }
 
 #[inline(never)]
-fn after_bar(inner: Open, last: Last) -> Result<Option<Next>, AllocError>
-    ensures { IfOk result (λ next. next ≡ option_and_then (grammar.bar_after inner) (grammar.last_term last)) }
+fn after_bar(inner: &mut Open, last: &mut Last) -> Result<bool, AllocError>
+    ensures { IfOk result (λ goes. stays goes inner.new last.new ≡ option_and_then (grammar.bar_after inner.old) (grammar.last_term last.old)) }
 {
-    let Some(term) = last_term(last) else {
-        return Ok(None);
+    let Some(term) = last_term(mem::replace(last, Last::Mark)) else {
+        return Ok(false);
     };
-    match inner {
-        Open::List(items) => Ok(Some(Next::Stays(Open::Tail(with_term(items, term)?), Last::Mark))),
-        _ => Ok(None),
+    match mem::replace(inner, Open::Form) {
+        Open::List(items) => {
+            *inner = Open::Tail(with_term(items, term)?);
+            Ok(true)
+        }
+        _ => Ok(false),
     }
 }
 
 #[inline(never)]
-fn after_arrow(inner: Open, last: Last) -> Option<Next>
-    ensures { result ≡ option_and_then (grammar.arrow_after inner) (grammar.last_term last) }
+fn after_arrow(inner: &mut Open, last: &mut Last) -> bool
+    ensures { stays result inner.new last.new ≡ option_and_then (grammar.arrow_after inner.old) (grammar.last_term last.old) }
 {
-    let _term = last_term(last)?;
-    match inner {
-        Open::Key => Some(Next::Stays(Open::Value, Last::Mark)),
-        _ => None,
+    if is_free(last) {
+        return false;
     }
-}
-
-#[inline(never)]
-fn after_dot(inner: Open, last: Last) -> Option<Next>
-    ensures { result ≡ option_and_then (grammar.dot_after inner) (grammar.last_term last) }
-{
-    let term = last_term(last)?;
+    *last = Last::Mark;
     match inner {
-        Open::Form => Some(Next::Gives(term)),
-        _ => None,
+        Open::Key => {
+            *inner = Open::Value;
+            true
+        }
+        _ => false,
     }
 }
 
@@ -194,39 +203,56 @@ fn stand_in() -> Term
     Term::Int(0)
 }
 
-fn ends_tuple(items: Items<Term>, last: Last) -> Result<Option<Next>, AllocError>
-    ensures { IfOk result (λ next. next ≡ option_and_then grammar.ends_tuple (grammar.all_terms items last)) }
+/// The innermost construct, out of which the reading goes.
+fn leave(outer: &mut Items<Open>, inner: &mut Open) -> Open
+    ensures left { result ≡ inner.old }
+    ensures around { outer.new ≡ reading.around outer.old }
+    ensures innermost { inner.new ≡ reading.innermost outer.old }
 {
-    match all_terms(items, last)? {
-        None => Ok(None),
-        Some(all) => Ok(Some(Next::Ends(Term::Tuple(all)))),
+    let around = match outer.pop() {
+        None => Open::Form,
+        Some(around) => around,
+    };
+    mem::replace(inner, around)
+}
+
+fn ends_tuple(items: Items<Term>, last: Last) -> Result<Option<Term>, AllocError>
+    ensures { IfOk result (λ term. option_map Next.Ends term ≡ option_and_then grammar.ends_tuple (grammar.all_terms items last)) }
+{
+    let mut items = items;
+    if add_last(&mut items, last)? {
+        Ok(Some(Term::Tuple(items)))
+    } else {
+        Ok(None)
     }
 }
 
-fn ends_list(items: Items<Term>, last: Last) -> Result<Option<Next>, AllocError>
-    ensures { IfOk result (λ next. next ≡ option_and_then grammar.ends_list (grammar.all_terms items last)) }
+fn ends_list(items: Items<Term>, last: Last) -> Result<Option<Term>, AllocError>
+    ensures { IfOk result (λ term. option_map Next.Ends term ≡ option_and_then grammar.ends_list (grammar.all_terms items last)) }
 {
-    match all_terms(items, last)? {
-        None => Ok(None),
-        Some(all) => Ok(Some(Next::Ends(Term::List(all, None)))),
+    let mut items = items;
+    if add_last(&mut items, last)? {
+        Ok(Some(Term::List(items, None)))
+    } else {
+        Ok(None)
     }
 }
 
-fn ends_map(last: Last) -> Option<Next>
-    ensures { result ≡ option_and_then grammar.ends_map (grammar.last_term last) }
+fn ends_map(last: Last) -> Option<Term>
+    ensures { option_map Next.Ends result ≡ option_and_then grammar.ends_map (grammar.last_term last) }
 {
     let _value = last_term(last)?;
-    Some(Next::Ends(stand_in()))
+    Some(stand_in())
 }
 
-#[inline(never)]
-fn after_brace(inner: Open, last: Last) -> Result<Option<Next>, AllocError>
-    ensures { IfOk result (λ next. next ≡ grammar.after_brace inner last) }
+/// The term that a closing brace ends.
+fn closed_by_brace(inner: Open, last: Last) -> Result<Option<Term>, AllocError>
+    ensures { IfOk result (λ term. option_map Next.Ends term ≡ grammar.after_brace inner last) }
 {
     match inner {
         Open::Tuple(items) => ends_tuple(items, last),
         Open::Key => match last {
-            Last::Bracket => Ok(Some(Next::Ends(stand_in()))),
+            Last::Bracket => Ok(Some(stand_in())),
             Last::Mark | Last::Term(_) | Last::Text(_) => Ok(None),
         },
         Open::Value => Ok(ends_map(last)),
@@ -253,18 +279,19 @@ fn with_tail(alloc: Global, items: Items<Term>, tail: Term) -> Result<Term, Allo
     }
 }
 
-fn ends_tail(alloc: Global, items: Items<Term>, last: Last) -> Result<Option<Next>, AllocError>
-    ensures { IfOk result (λ next. next ≡ option_and_then (grammar.ends_tail items) (grammar.last_term last)) }
+#[inline(never)]
+fn ends_tail(alloc: Global, items: Items<Term>, last: Last) -> Result<Option<Term>, AllocError>
+    ensures { IfOk result (λ term. option_map Next.Ends term ≡ option_and_then (grammar.ends_tail items) (grammar.last_term last)) }
 {
     match last_term(last) {
         None => Ok(None),
-        Some(tail) => Ok(Some(Next::Ends(with_tail(alloc, items, tail)?))),
+        Some(tail) => Ok(Some(with_tail(alloc, items, tail)?)),
     }
 }
 
-#[inline(never)]
-fn after_bracket(alloc: Global, inner: Open, last: Last) -> Result<Option<Next>, AllocError>
-    ensures { IfOk result (λ next. next ≡ grammar.after_bracket inner last) }
+/// The term that a closing bracket ends.
+fn closed_by_bracket(alloc: Global, inner: Open, last: Last) -> Result<Option<Term>, AllocError>
+    ensures { IfOk result (λ term. option_map Next.Ends term ≡ grammar.after_bracket inner last) }
 {
     match inner {
         Open::ArgumentList(items) => ends_list(items, last),
@@ -274,29 +301,79 @@ fn after_bracket(alloc: Global, inner: Open, last: Last) -> Result<Option<Next>,
     }
 }
 
-/// What a token does to the innermost open construct, in which `last` stands last.
-pub fn next(
-    alloc: Global,
-    inner: Open,
-    last: Last,
-    token: Token,
-) -> Result<Option<Next>, AllocError>
-    ensures { IfOk result (λ next. next ≡ grammar.next inner last token) }
+#[inline(never)]
+fn after_brace(stand: &mut Stand) -> Result<bool, AllocError>
+    ensures { IfOk result (λ goes. goes_to goes stand.new ≡ option_map (moved_from stand.old) (grammar.after_brace stand.old.inner stand.old.last)) }
 {
-    match token {
-        Token::Integer(n) => Ok(after_term(inner, last, Term::Int(n))),
-        Token::Wide => Ok(after_term(inner, last, stand_in())),
-        Token::Float => Ok(after_term(inner, last, stand_in())),
-        Token::Atom(name) => Ok(after_term(inner, last, Term::Atom(name))),
-        Token::Text(codes) => after_text(inner, last, codes),
-        Token::OpenTuple => Ok(after_open(inner, last, Open::Tuple(Items::new(alloc)))),
-        Token::OpenList => Ok(after_open_list(alloc, inner, last)),
-        Token::OpenMap => Ok(after_open(inner, last, Open::Key)),
-        Token::CloseBrace => after_brace(inner, last),
-        Token::CloseBracket => after_bracket(alloc, inner, last),
-        Token::Comma => after_comma(inner, last),
-        Token::Bar => after_bar(inner, last),
-        Token::Arrow => Ok(after_arrow(inner, last)),
-        Token::Dot => Ok(after_dot(inner, last)),
+    let inner = leave(&mut stand.outer, &mut stand.inner);
+    let last = mem::replace(&mut stand.last, Last::Mark);
+    match closed_by_brace(inner, last)? {
+        None => Ok(false),
+        Some(term) => {
+            stand.last = Last::Term(term);
+            Ok(true)
+        }
     }
+}
+
+#[inline(never)]
+fn after_bracket(alloc: Global, stand: &mut Stand) -> Result<bool, AllocError>
+    ensures { IfOk result (λ goes. goes_to goes stand.new ≡ option_map (moved_from stand.old) (grammar.after_bracket stand.old.inner stand.old.last)) }
+{
+    let inner = leave(&mut stand.outer, &mut stand.inner);
+    let last = mem::replace(&mut stand.last, Last::Mark);
+    match closed_by_bracket(alloc, inner, last)? {
+        None => Ok(false),
+        Some(term) => {
+            stand.last = Last::Term(term);
+            Ok(true)
+        }
+    }
+}
+
+/// Whether a token could follow, as what it did to a reading that goes on.
+fn goes(follows: bool) -> Effect
+    ensures { (s : Stand) → effect result s ≡ goes_to follows s }
+{
+    if follows {
+        Effect::Goes
+    } else {
+        Effect::Cannot
+    }
+}
+
+/// The dot that ends a form.
+fn after_dot(inner: &Open, last: &mut Last) -> Effect
+    ensures { (s : Stand) → effect result s ≡ option_map (moved_from s) (option_and_then (grammar.dot_after inner.now) (grammar.last_term last.old)) }
+{
+    match inner {
+        Open::Form => match last_term(mem::replace(last, Last::Mark)) {
+            None => Effect::Cannot,
+            Some(term) => Effect::Gives(term),
+        },
+        _ => Effect::Cannot,
+    }
+}
+
+/// What a token does to a reading.
+pub fn next(alloc: Global, stand: &mut Stand, token: Token) -> Result<Effect, AllocError>
+    ensures { IfOk result (λ did. effect did stand.new ≡ option_map (moved_from stand.old) (grammar.next stand.old.inner stand.old.last token)) }
+{
+    let follows = match token {
+        Token::Integer(n) => after_term(&stand.inner, &mut stand.last, Term::Int(n)),
+        Token::Wide => after_term(&stand.inner, &mut stand.last, stand_in()),
+        Token::Float => after_term(&stand.inner, &mut stand.last, stand_in()),
+        Token::Atom(name) => after_term(&stand.inner, &mut stand.last, Term::Atom(name)),
+        Token::Text(codes) => after_text(&stand.inner, &mut stand.last, codes)?,
+        Token::OpenTuple => after_open(stand, Open::Tuple(Items::new(alloc)))?,
+        Token::OpenList => after_open_list(alloc, stand)?,
+        Token::OpenMap => after_open(stand, Open::Key)?,
+        Token::CloseBrace => after_brace(stand)?,
+        Token::CloseBracket => after_bracket(alloc, stand)?,
+        Token::Comma => after_comma(&mut stand.inner, &mut stand.last)?,
+        Token::Bar => after_bar(&mut stand.inner, &mut stand.last)?,
+        Token::Arrow => after_arrow(&mut stand.inner, &mut stand.last),
+        Token::Dot => return Ok(after_dot(&stand.inner, &mut stand.last)),
+    };
+    Ok(goes(follows))
 }

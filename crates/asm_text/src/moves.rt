@@ -2,13 +2,13 @@ ghost use Rattle.std.specs.Prelude.{◌≡◌, ◌∷◌, ◌==◌, [], length, 
 ghost use Rattle.std.specs.Cmp.Lexicographic.{pointwise};
 ghost use Rattle.asm_text.specs.Reading as reading;
 ghost use Rattle.asm_text.specs.Reading.{Meets};
+ghost use Rattle.asm_text.specs.InPlace.{made};
 
 use crate::grammar::next;
-use crate::stand::{Form, Last, Looseness, Move, Next, Open, Stand};
+use crate::stand::{Effect, Form, Looseness, Stand};
 use crate::token::{Kind, Reason, TextRefusal, Token};
-use sqlite_items::Items;
-use std::alloc::{AllocError, Global};
-use term_tree::{Name, Term};
+use std::alloc::Global;
+use term_tree::Name;
 
 /// The most brackets that may be open.
 const MOST_OPEN: usize = 200;
@@ -120,107 +120,29 @@ fn form_line(looseness: Looseness, line: u32, token_line: u32) -> u32
     }
 }
 
-/// Open constructs, the innermost one apart.
-#[derive(Drop, Debug)]
-struct Nest {
-    around: Items<Open>,
-    innermost: Open,
-}
-
-#[tactic(auto, using(crate::proofs::Nests::nest_steps))]
-fn split_innermost(outer: Items<Open>) -> Nest
-    ensures around { result.around ≡ reading.around outer }
-    ensures innermost { result.innermost ≡ reading.innermost outer }
-{
-    let mut around = outer;
-    match around.pop() {
-        None => Nest {
-            around,
-            innermost: Open::Form,
-        },
-        Some(innermost) => Nest { around, innermost },
-    }
-}
-
-fn begins(
-    outer: Items<Open>,
-    looseness: Looseness,
-    line: u32,
-    inner: Open,
-    new: Open,
-) -> Result<Move, AllocError>
-    ensures { IfOk result (λ m. m ≡ reading.moved outer looseness line (Next.Begins inner new)) }
-{
-    let mut outer = outer;
-    outer.push(inner)?;
-    Ok(Move::Goes(Stand {
-        outer,
-        inner: new,
-        last: Last::Bracket,
-        looseness,
-        line,
-    }))
-}
-
-fn ends(outer: Items<Open>, looseness: Looseness, line: u32, term: Term) -> Stand
-    ensures { Move.Goes result ≡ reading.moved outer looseness line (Next.Ends term) }
-{
-    let nest = split_innermost(outer);
-    Stand {
-        outer: nest.around,
-        inner: nest.innermost,
-        last: Last::Term(term),
-        looseness,
-        line,
-    }
-}
-
-/// How a reading stands after a token that does so, inside these constructs.
-fn moved(
-    outer: Items<Open>,
-    looseness: Looseness,
-    line: u32,
-    next: Next,
-) -> Result<Move, AllocError>
-    ensures { IfOk result (λ m. m ≡ reading.moved outer looseness line next) }
-{
-    match next {
-        Next::Stays(inner, last) => Ok(Move::Goes(Stand {
-            outer,
-            inner,
-            last,
-            looseness,
-            line,
-        })),
-        Next::Begins(inner, new) => begins(outer, looseness, line, inner, new),
-        Next::Ends(term) => Ok(Move::Goes(ends(outer, looseness, line, term))),
-        Next::Gives(term) => Ok(Move::Gives(Form { line, term })),
-    }
-}
-
-/// What a token of this line does to a reading.
+/// What a token of this line does to a reading: the form that it ends, if it ends one.
 #[tactic(auto, using(crate::proofs::Refusals::refusal_steps), unfolding(crate::specs::Reading::step))]
-pub fn move_on(alloc: Global, stand: Stand, line: u32, token: Token) -> Result<Move, TextRefusal>
-    ensures { Meets result (reading.step stand line token) }
+pub fn move_on(
+    alloc: Global,
+    stand: &mut Stand,
+    line: u32,
+    token: Token,
+) -> Result<Option<Form>, TextRefusal>
+    ensures { Meets (made stand.new result) (reading.step stand.old line token) }
 {
-    let Stand {
-        outer,
-        inner,
-        last,
-        looseness,
-        line: begun,
-    } = stand;
-    let after = looseness_after(looseness, &token);
-    let form = form_line(looseness, begun, line);
-    if let Some(refusal) = refused_itself(is_loose(looseness), line, outer.len(), &token) {
+    let before = stand.looseness;
+    if let Some(refusal) = refused_itself(is_loose(before), line, stand.outer.len(), &token) {
         return Err(refusal);
     }
-    match next(alloc, inner, last, token) {
+    stand.looseness = looseness_after(before, &token);
+    stand.line = form_line(before, stand.line, line);
+    match next(alloc, stand, token) {
         Err(e) => Err(TextRefusal::Memory(e)),
-        Ok(None) => Err(TextRefusal::Syntax { line }),
-        Ok(Some(next)) => match moved(outer, after, form, next) {
-            Err(e) => Err(TextRefusal::Memory(e)),
-            Ok(m) => Ok(m),
-        },
+        Ok(Effect::Cannot) => Err(TextRefusal::Syntax { line }),
+        Ok(Effect::Goes) => Ok(None),
+        Ok(Effect::Gives(term)) => Ok(Some(Form {
+            line: stand.line,
+            term,
+        })),
     }
 }

@@ -1,7 +1,7 @@
-ghost use Rattle.std.specs.Prelude.{◌≡◌, ◌+◌, ◌≤◌, ◌<◌, length, IfOk, IsTrue, [], if◌then◌else◌};
+ghost use Rattle.std.specs.Prelude.{◌≡◌, ◌≢◌, ◌+◌, ◌≤◌, ◌<◌, ℕ, List, ◌∷◌, length, IfOk, IfSome, IsTrue, [], if◌then◌else◌};
 ghost use Rattle.std.specs.List.{list_all};
 ghost use Rattle.term_tree.specs.Term.{is_canonical};
-ghost use Rattle.asm_text.specs.Canonical.{in_piece};
+ghost use Rattle.asm_text.specs.Canonical.{in_piece, in_token};
 ghost use Rattle.asm_text.specs.Character as quotes;
 ghost use Rattle.asm_text.specs.Pieces as pieces;
 
@@ -28,11 +28,19 @@ fn comment(bytes: &[u8]) -> Piece
     }
 }
 
+/// The most bytes of a text that needs no count of its characters.
+const SHORT: usize = 255;
+
 /// An atom with this text.
+#[tactic(auto, using(term_tree::proofs::NameLaws::characters_few))]
 fn atom(alloc: Global, text: &str, size: usize) -> Result<Piece, AllocError>
     ensures piece { IfOk result (λ piece. piece ≡ pieces.atom text.now size) }
     ensures canonical { IfOk result (λ piece. IsTrue (in_piece piece)) }
 {
+    if text.len() <= SHORT {
+        let name = Name::from_short(alloc, text)?;
+        return Ok(Piece::Whole(Token::Atom(name), size));
+    }
     match Name::new(alloc, text) {
         Ok(name) => Ok(Piece::Whole(Token::Atom(name), size)),
         Err(NameRefusal::TooLong) => Ok(Piece::Bad(Reason::Syntax)),
@@ -118,6 +126,25 @@ fn pair(second: u8, bytes: &[u8], here: Piece, other: Piece) -> Piece
     }
 }
 
+/// The token that this byte is, whatever follows it.
+#[tactic(auto, unfolding(crate::specs::Pieces::piece, crate::specs::Pieces::mark))]
+pub fn one_byte_token(byte: u8) -> Option<Token>
+    ensures piece { IfSome result (λ token. (rest : List ℕ) → pieces.piece (byte ∷ rest) ≡ Piece.Whole token 1) }
+    ensures mark { IfSome result (λ token. (rest : List ℕ) → pieces.mark byte rest ≡ Piece.Whole token 1) }
+    ensures others { result ≡ None → (byte ≢ 123) × (byte ≢ 125) × (byte ≢ 91) × (byte ≢ 93) × (byte ≢ 44) × (byte ≢ 124) }
+    ensures canonical { IfSome result (λ token. IsTrue (in_token token)) }
+{
+    match byte {
+        123 => Some(Token::OpenTuple),
+        125 => Some(Token::CloseBrace),
+        91 => Some(Token::OpenList),
+        93 => Some(Token::CloseBracket),
+        44 => Some(Token::Comma),
+        124 => Some(Token::Bar),
+        _ => None,
+    }
+}
+
 /// A byte that begins no number, atom, string or comment, and those after it.
 #[tactic(auto, unfolding(crate::specs::Pieces::mark))]
 #[inline(never)]
@@ -125,13 +152,10 @@ fn mark(first: u8, bytes: &[u8]) -> Piece
     ensures piece { result ≡ pieces.mark first bytes.now }
     ensures canonical { IsTrue (in_piece result) }
 {
+    if let Some(token) = one_byte_token(first) {
+        return Piece::Whole(token, 1);
+    }
     match first {
-        123 => Piece::Whole(Token::OpenTuple, 1),
-        125 => Piece::Whole(Token::CloseBrace, 1),
-        91 => Piece::Whole(Token::OpenList, 1),
-        93 => Piece::Whole(Token::CloseBracket, 1),
-        44 => Piece::Whole(Token::Comma, 1),
-        124 => Piece::Whole(Token::Bar, 1),
         46 => dot(bytes),
         36 => Piece::Bad(Reason::OfKind(Kind::Character)),
         60 => pair(

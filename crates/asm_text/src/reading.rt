@@ -1,17 +1,19 @@
-ghost use Rattle.std.specs.Prelude.{◌≡◌, IfOk, IsTrue};
+ghost use Rattle.std.specs.Prelude.{◌≡◌, IfOk, OnOk, IsTrue};
 ghost use Rattle.std.specs.List.{list_all};
 ghost use Rattle.term_tree.specs.Term.{is_canonical};
 ghost use Rattle.asm_text.specs.Canonical.{has_canonical, in_stand, in_token};
 ghost use Rattle.asm_text.specs.Tokens as tokens;
 ghost use Rattle.asm_text.specs.Reading as reading;
 ghost use Rattle.asm_text.specs.Reading.{Meets};
-ghost use Rattle.asm_text.specs.Spelling.{ReadsArguments, ReadsForms};
+ghost use Rattle.asm_text.specs.Spelling.{AreArguments, AreForms, IsTextOf, IsTextOfArguments, ReadsArguments, ReadsForms, Refuses};
 ghost use Rattle.asm_text.specs.Progress.{Comes, in_progress, in_ending};
+ghost use Rattle.asm_text.specs.InPlace.{now};
 ghost use Rattle.term_tree.specs.declared.term.Term.{out-Term};
 
+use crate::class::{Class, passes};
 use crate::moves::{move_on, refusal_at};
-use crate::piece::piece;
-use crate::stand::{Ending, Form, Last, Looseness, Move, Open, Stand};
+use crate::piece::{one_byte_token, piece};
+use crate::stand::{Ending, Form, Last, Looseness, Open, Stand};
 use crate::token::{Piece, TextRefusal, Token};
 use sqlite_items::Items;
 use std::alloc::{AllocError, Global};
@@ -61,24 +63,18 @@ pub struct Progress {
 
 /// One more token, of this line.
 #[tactic(auto, using(crate::proofs::Steps::progress_steps, crate::proofs::ProgressCanonical::progress_canonical))]
-fn take(alloc: Global, so_far: Progress, line: u32, token: Token) -> Result<Progress, TextRefusal>
-    ensures comes { Comes result so_far line token }
-    ensures canonical { IfOk result (λ p. IsTrue (in_progress so_far) → IsTrue (in_token token) → IsTrue (in_progress p)) }
+#[inline(never)]
+fn take(alloc: Global, so_far: &mut Progress, line: u32, token: Token) -> Result<(), TextRefusal>
+    ensures comes { Comes (now so_far.new result) so_far.old line token }
+    ensures canonical { OnOk result (IsTrue (in_progress so_far.old) → IsTrue (in_token token) → IsTrue (in_progress so_far.new)) }
 {
-    let Progress { forms, stand } = so_far;
-    match move_on(alloc, stand, line, token)? {
-        Move::Goes(stand) => Ok(Progress { forms, stand }),
-        Move::Gives(form) => {
-            let mut forms = forms;
-            match forms.push(form) {
-                Err(e) => Err(TextRefusal::Memory(e)),
-                Ok(()) => Ok(Progress {
-                    forms,
-                    stand: before_form(alloc),
-                }),
-            }
+    if let Some(form) = move_on(alloc, &mut so_far.stand, line, token)? {
+        if let Err(e) = so_far.forms.push(form) {
+            return Err(TextRefusal::Memory(e));
         }
+        so_far.stand = before_form(alloc);
     }
+    Ok(())
 }
 
 /// What the tokens of a text come to.
@@ -99,13 +95,15 @@ fn ending(alloc: Global, start: Stand, text: &[u8]) -> Result<Ending, TextRefusa
     while let Some((first, more)) = rest.split_first() {
         if skip > 0 {
             skip -= 1;
-        } else {
+        } else if let Some(token) = one_byte_token(*first) {
+            take(alloc, &mut so_far, line, token)?;
+        } else if !passes(Class::Separator, *first) {
             match piece(alloc, rest) {
                 Err(e) => return Err(TextRefusal::Memory(e)),
                 Ok(Piece::Bad(reason)) => return Err(refusal_at(line, reason)),
                 Ok(Piece::Blank(size)) => skip = size.saturating_sub(1),
                 Ok(Piece::Whole(token, size)) => {
-                    so_far = take(alloc, so_far, line, token)?;
+                    take(alloc, &mut so_far, line, token)?;
                     skip = size.saturating_sub(1);
                 }
             }
@@ -149,6 +147,8 @@ fn items_of(line: u32, term: Term) -> Result<Items<Term>, TextRefusal>
 pub fn read_forms(alloc: Global, text: &[u8]) -> Result<Items<Form>, TextRefusal>
     ensures forms { Meets result (reading.reading text.now) }
     ensures written { ReadsForms text.now result }
+    ensures spelled { IfOk result (λ forms. IsTextOf text.now forms) }
+    ensures refused { Refuses AreForms text.now result }
     ensures canonical { IfOk result (λ forms. IsTrue (list_all has_canonical forms)) }
 {
     forms_in(alloc, text)
@@ -175,6 +175,8 @@ fn arguments_in(alloc: Global, text: &[u8]) -> Result<Items<Term>, TextRefusal>
 pub fn read_args(alloc: Global, text: &[u8]) -> Result<Items<Term>, TextRefusal>
     ensures arguments { Meets result (reading.arguments text.now) }
     ensures written { ReadsArguments text.now result }
+    ensures spelled { IfOk result (λ terms. IsTextOfArguments text.now terms) }
+    ensures refused { Refuses AreArguments text.now result }
     ensures canonical { IfOk result (λ terms. IsTrue (list_all is_canonical terms)) }
 {
     arguments_in(alloc, text)

@@ -39,7 +39,18 @@ pub enum Last {
     Text(Items<Term>),
 }
 
-/// What a token does to the innermost open construct.
+/// What a token did to a reading, whose stand was changed in place.
+#[derive(Drop, Debug)]
+pub enum Effect {
+    /// It cannot follow.
+    Cannot,
+    /// The form goes on, or begins.
+    Goes,
+    /// The form ends, and has this term.
+    Gives(Term),
+}
+
+/// What a token does to the innermost open construct, as contracts see it.
 #[derive(Drop, Debug)]
 pub enum Next {
     /// It is still the innermost one.
@@ -75,7 +86,7 @@ pub struct Stand {
     pub line: u32,
 }
 
-/// What a token does to a reading.
+/// What a token does to a reading, as contracts see it.
 #[derive(Drop, Debug)]
 pub enum Move {
     Goes(Stand),

@@ -1,4 +1,4 @@
-use crate::{Form, Kind, TextRefusal, read_args, read_forms};
+use crate::{Form, Kind, TextRefusal, is_entry, read_args, read_entry, read_forms};
 use sqlite_items::Items;
 use std::alloc::{AllocError, Global};
 use std::process::Abort;
@@ -670,5 +670,91 @@ fn deep_terms(rt: HostRuntime) -> Result<(), Fail> {
     let text = repeated(alloc, "", "[", 201, "")?;
     let got = shown_arguments(alloc, text.as_str().as_bytes())?;
     assert_eq!(rt; got.as_str(), "deep 1");
+    Ok(())
+}
+
+/// A word, its two names with a space between them, or nothing where it is no entry, and why.
+const ENTRIES: [Row; 22] = [
+    (b"one:f", "one f", "two names without quotes"),
+    (b"'a b':'c\\'d'", "a b c'd", "two names in quotes"),
+    (b"'':x", " x", "a name of no characters"),
+    (b"a:''", "a ", "a function's name of no characters"),
+    (b"a@B_1:'A'", "a@B_1 A", "one name in quotes"),
+    (b"'a:b':c", "a:b c", "a colon between quotes"),
+    (
+        b"'\\x{10FFFF}':'\xc3\xa9'",
+        "\u{10ffff} \u{e9}",
+        "characters of four bytes and of two",
+    ),
+    (b"", "", "no names"),
+    (b"a", "", "no colon"),
+    (b"a:", "", "no name of a function"),
+    (b":f", "", "no name of a module"),
+    (b"a:b:c", "", "three names"),
+    (b"a: b", "", "a separator behind the colon"),
+    (b"a :b", "", "a separator before the colon"),
+    (b"a:b ", "", "a separator at the end"),
+    (b" a:b", "", "a separator at the front"),
+    (b"A:f", "", "a variable"),
+    (b"1:f", "", "an integer"),
+    (b"\"a\":f", "", "a string"),
+    (b"'a", "", "a quote that does not end"),
+    (b"a:'b", "", "a quote that does not end behind the colon"),
+    (b"'\xff':f", "", "a byte that is no character"),
+];
+
+/// The two names of a word, with a space between them; nothing where it is no entry.
+fn shown_entry(
+    rt: &impl Abort,
+    alloc: Global,
+    word: &[u8],
+    why: &str,
+) -> Result<String, AllocError> {
+    let names = read_entry(alloc, word)?;
+    assert_eq!(rt; is_entry(word), names.is_some(), "{why}");
+    match names {
+        None => Ok(String::new(alloc)),
+        Some((owner, function)) => { format!(in alloc; "{} {}", owner.as_str(), function.as_str()) }
+    }
+}
+
+#[test]
+fn entries(rt: HostRuntime) -> Result<(), Fail> {
+    let alloc = rt.alloc();
+    for row in ENTRIES.iter() {
+        let (word, want, why) = *row;
+        let got = shown_entry(&rt, alloc, word, why)?;
+        assert_eq!(rt; got.as_str(), want, "{why}");
+    }
+    Ok(())
+}
+
+/// A word with a name of that many characters, and the size in bytes of its two names with a space
+/// between them, or 0 where it is no entry.
+fn check_long_entry(
+    rt: &impl Abort,
+    alloc: Global,
+    parts: (&str, &str, u32, &str),
+    size: usize,
+) -> Result<(), AllocError> {
+    let (before, piece, count, after) = parts;
+    let word = repeated(alloc, before, piece, count, after)?;
+    let got = shown_entry(rt, alloc, word.as_str().as_bytes(), piece)?;
+    assert_eq!(rt; got.len(), size, "{count} times {piece}");
+    Ok(())
+}
+
+/// A name has 255 characters, of any size in bytes.
+#[test]
+fn long_entries(rt: HostRuntime) -> Result<(), Fail> {
+    let alloc = rt.alloc();
+    check_long_entry(&rt, alloc, ("", "a", 255, ":f"), 257)?;
+    check_long_entry(&rt, alloc, ("", "a", 256, ":f"), 0)?;
+    check_long_entry(&rt, alloc, ("'", "\u{e9}", 255, "':f"), 512)?;
+    check_long_entry(&rt, alloc, ("'", "\u{e9}", 256, "':f"), 0)?;
+    check_long_entry(&rt, alloc, ("f:'", "\u{20ac}", 255, "'"), 767)?;
+    check_long_entry(&rt, alloc, ("f:'", "\u{20ac}", 256, "'"), 0)?;
+    check_long_entry(&rt, alloc, ("f:'", "\\x{10FFFF}", 255, "'"), 1022)?;
+    check_long_entry(&rt, alloc, ("f:'", "\\x{10FFFF}", 256, "'"), 0)?;
     Ok(())
 }

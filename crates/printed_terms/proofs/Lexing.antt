@@ -1,0 +1,104 @@
+-- The tokens of a text whose first bytes are one token with no line feed.
+use Rattle.std.proofs.Common.{◌≡◌, ℕ, ◌+◌, ◌-◌, min, Bool, true, false, List, [], ◌∷◌, ◌++◌, length, refl, ap, ◌∙◌, arith, ◌&&◌, if◌then◌else◌, ◌==◌}
+use Rattle.std.specs.List.{list_all}
+use Rattle.term_tree.proofs.TermLaws.{both_hold}
+use Rattle.asm_text.specs.declared.token.Token.{Token}
+use Rattle.asm_text.specs.declared.token.Token.TheVariants as k
+use Rattle.asm_text.specs.declared.token.Piece.TheVariants.{Whole}
+use Rattle.asm_text.specs.Character.{is, begins, run}
+use Rattle.asm_text.specs.Pieces.{piece, mark, is_digit, is_name_byte, is_no_line_feed, begins_fraction}
+use Rattle.asm_text.specs.Tokens.{More, tokens, tokens_after, line_after, last_line}
+use Rattle.asm_text.proofs.Steps.{tokens-skip, tokens-whole}
+
+pub both_true : (a b : Bool) → a ≡ true → b ≡ true → a && b ≡ true
+both_true true b h e = e
+both_true false b h e = absurd (cc)
+
+stays : (feed : Bool) (line : ℕ) → (if feed then false else true) ≡ true → (if feed then min (line + 1) last_line else line) ≡ line
+stays true line h = absurd (cc)
+stays false line h = refl
+
+same_line : (line b : ℕ) → is_no_line_feed b ≡ true → line_after line b ≡ line
+same_line line b h = stays (b == 10) line h
+
+skipped : (cs rest : List ℕ) → list_all is_no_line_feed cs ≡ true → tokens_after (length cs) 1 1 (cs ++ rest) ≡ tokens rest
+skipped [] rest h = refl
+skipped (c ∷ cs) rest h =
+    let both = both_hold (is_no_line_feed c) (list_all is_no_line_feed cs) h in
+    let one_less : length (c ∷ cs) - 1 ≡ length cs = omega arith in
+    tokens-skip (length (c ∷ cs)) 1 1 (c ∷ (cs ++ rest)) c (cs ++ rest) refl (omega arith)
+    ∙ ap (λ line. tokens_after (length (c ∷ cs) - 1) 1 line (cs ++ rest)) (same_line 1 c both.0)
+    ∙ ap (λ n. tokens_after n 1 1 (cs ++ rest)) one_less
+    ∙ skipped cs rest both.1
+
+-- all stands in the first line, since no byte is a line feed
+pub one_token : (b : ℕ) (cs rest : List ℕ) (token : Token) → piece (b ∷ (cs ++ rest)) ≡ Whole token (length (b ∷ cs)) → list_all is_no_line_feed (b ∷ cs) ≡ true
+    → tokens (b ∷ (cs ++ rest)) ≡ More 1 token (tokens rest)
+one_token b cs rest token e h =
+    let both = both_hold (is_no_line_feed b) (list_all is_no_line_feed cs) h in
+    let one_less : length (b ∷ cs) - 1 ≡ length cs = omega arith in
+    tokens-whole 0 1 1 (b ∷ (cs ++ rest)) b (cs ++ rest) token (length (b ∷ cs)) refl (omega arith) e
+    ∙ ap (λ line. More 1 token (tokens_after (length (b ∷ cs) - 1) 1 line (cs ++ rest))) (same_line 1 b both.0)
+    ∙ ap (λ n. More 1 token (tokens_after n 1 1 (cs ++ rest))) one_less
+    ∙ ap (More 1 token) (skipped cs rest both.1)
+
+-- the front that passes a test, before bytes that do not
+pub run-front : (p : ℕ → Bool) (ds rest : List ℕ) → list_all p ds ≡ true → begins p rest ≡ false → run p (ds ++ rest) ≡ length ds
+run-front p [] [] h e = refl
+run-front p [] (r ∷ rest) h e = rw e refl
+run-front p (d ∷ ds) rest h e =
+    let both = both_hold (p d) (list_all p ds) h in
+    let more = run-front p ds rest both.1 e in
+    let sum : 1 + run p (ds ++ rest) ≡ length (d ∷ ds) = omega arith in
+    ap (λ b. if b then 1 + run p (ds ++ rest) else 0) both.0 ∙ sum
+
+-- where a number or an atom stops
+pub record Stops (rest : List ℕ) : Type 0 where
+  pub name : begins is_name_byte rest ≡ false
+  pub digit : begins is_digit rest ≡ false
+  pub fraction : begins_fraction rest ≡ false
+  pub based : begins (is 35) rest ≡ false
+
+pub stops_comma : (rest : List ℕ) → Stops (44 ∷ rest)
+stops_comma rest = record { name = refl; digit = refl; fraction = refl; based = refl }
+
+pub stops_bar : (rest : List ℕ) → Stops (124 ∷ rest)
+stops_bar rest = record { name = refl; digit = refl; fraction = refl; based = refl }
+
+pub stops_bracket : (rest : List ℕ) → Stops (93 ∷ rest)
+stops_bracket rest = record { name = refl; digit = refl; fraction = refl; based = refl }
+
+pub stops_brace : (rest : List ℕ) → Stops (125 ∷ rest)
+stops_brace rest = record { name = refl; digit = refl; fraction = refl; based = refl }
+
+pub stops_dot : Stops (46 ∷ [])
+stops_dot = record { name = refl; digit = refl; fraction = refl; based = refl }
+
+-- the marks
+pub comma_token : (rest : List ℕ) → tokens (44 ∷ rest) ≡ More 1 k.Comma (tokens rest)
+unfolding piece mark
+comma_token rest = one_token 44 [] rest k.Comma refl refl
+
+pub bar_token : (rest : List ℕ) → tokens (124 ∷ rest) ≡ More 1 k.Bar (tokens rest)
+unfolding piece mark
+bar_token rest = one_token 124 [] rest k.Bar refl refl
+
+pub list_token : (rest : List ℕ) → tokens (91 ∷ rest) ≡ More 1 k.OpenList (tokens rest)
+unfolding piece mark
+list_token rest = one_token 91 [] rest k.OpenList refl refl
+
+pub bracket_token : (rest : List ℕ) → tokens (93 ∷ rest) ≡ More 1 k.CloseBracket (tokens rest)
+unfolding piece mark
+bracket_token rest = one_token 93 [] rest k.CloseBracket refl refl
+
+pub tuple_token : (rest : List ℕ) → tokens (123 ∷ rest) ≡ More 1 k.OpenTuple (tokens rest)
+unfolding piece mark
+tuple_token rest = one_token 123 [] rest k.OpenTuple refl refl
+
+pub brace_token : (rest : List ℕ) → tokens (125 ∷ rest) ≡ More 1 k.CloseBrace (tokens rest)
+unfolding piece mark
+brace_token rest = one_token 125 [] rest k.CloseBrace refl refl
+
+pub dot_token : tokens (46 ∷ []) ≡ More 1 k.Dot (tokens [])
+unfolding piece mark
+dot_token = one_token 46 [] [] k.Dot refl refl

@@ -1,0 +1,7 @@
+pub mod Lexing
+pub mod Numbers
+pub mod BareAtoms
+pub mod QuotedAtoms
+pub mod Layers
+pub mod Written
+pub mod ReadBack
