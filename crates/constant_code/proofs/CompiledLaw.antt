@@ -1,18 +1,17 @@
 -- What is compiled is an image of constant functions.
-use Rattle.std.proofs.Common.{◌≡◌, ◌≢◌, ℕ, zero, suc, ℤ, ◌+◌, ◌-◌, ◌*◌, ◌<◌, ◌≤◌, ◌++◌, List, [], ◌∷◌, Option, Some, None, Bool, true, false, nat_eq, length, map, slice_get, refl, ap, subst, sym, ◌∙◌, arith, length-append}
+use Rattle.std.proofs.Common.{◌≡◌, ℕ, zero, suc, ℤ, ◌+◌, ◌*◌, ◌<◌, ◌≤◌, ◌++◌, List, [], ◌∷◌, Some, Bool, true, false, nat_eq, length, map, slice_get, refl, ap, subst, sym, ◌∙◌, arith, length-append}
 use Rattle.std.proofs.lemmas.Bool.Decides.{nat_tests}
 use Rattle.std.proofs.lemmas.Option.{slice_get_within}
 use Rattle.std.specs.List.{AllByRecursion}
 use Rattle.beam_code.specs.declared.module.Function.{Function}
 use Rattle.beam_code.specs.declared.module.Module.{Module}
-use Rattle.beam_code.specs.Function.{Placed, all_functions, function_at, items_in, items_of, cost_of}
+use Rattle.beam_code.specs.Function.{Placed, items_in}
 use Rattle.constant_code.proofs.Law.{constants_are_faithful}
-use Rattle.constant_code.specs.Compiled.{value_of, IsReady, words_of, code_of, native_of, natives_from, numbers_from, compiled, IsCompilable, most_units}
-use Rattle.constant_code.specs.Image.{IsConstant, IsPlaced, IsConstantFunction, IsConstantImage, most_items, AreConstant}
-use Rattle.constant_code.specs.Words.{constant_words, constant_length}
+use Rattle.constant_code.specs.Compiled.{value_of, IsReady, words_of, code_of, native_of, natives_from, numbers_from, compiled, IsCompilable}
+use Rattle.constant_code.specs.Image.{IsConstant, IsConstantFunction, IsConstantImage, AreConstant}
+use Rattle.constant_code.specs.Words.{constant_length}
 use Rattle.faithful_image.specs.Faithful.{IsFaithful}
 use Rattle.mode_switch.specs.Place.{native_first}
-use Rattle.native_link.specs.declared.limits.TheConstants.{MOST_CODE}
 
 -- the functions of one module
 abbrev placed : Module → Function → Placed
@@ -74,17 +73,6 @@ pub length-code_of : (fs : List Function) → length (code_of fs) ≡ constant_l
 length-code_of [] = refl
 length-code_of (f ∷ fs) = let rest = length-code_of fs in length-append (words_of f) (code_of fs) ∙ omega arith
 
--- each function has items
-some_item : (f : Function) → IsReady f → 1 ≤ length f.items
-some_item f ready = let within = slice_get_within f.items (f.entry + 2) _ ready.returns in omega arith
-
-few_functions : (m : Module) (fs : List Function) → AllByRecursion IsReady fs → length fs ≤ items_in (map (placed m) fs ++ [])
-few_functions m [] all = omega arith
-few_functions m (f ∷ fs) all = let rest = few_functions m fs all.1 in let some = some_item f all.0 in omega arith
-
-pub few : (m : Module) → IsCompilable m → length m.functions ≤ most_units
-few m ok = let few = few_functions m m.functions ok.functions in let most = ok.items in omega arith
-
 pub image_of : (m : Module) → IsCompilable m → IsConstantImage (m ∷ []) (compiled m)
 image_of m ok =
     record {
@@ -103,8 +91,15 @@ image_of m ok =
             };
           });
       items = (let most = ok.items in omega arith);
-      code = (let all = length-code_of m.functions in let few = few_functions m m.functions ok.functions in let most = ok.items in omega arith);
+      code = (let all = length-code_of m.functions in let few = ok.few in omega arith);
     }
+
+-- the functions of such a module return constants
+pub ready_are_constant : (m : Module) → AllByRecursion IsReady m.functions → AreConstant (m ∷ [])
+ready_are_constant m all fid p e =
+    let n = numbered m m.functions fid p e in
+    let ready = ready_at m.functions fid n.function all n.there in
+    subst (λ q. (value : ℤ) × IsConstant q.function value) (sym n.is) (value_of n.function, ready)
 
 pub are_constant : (m : Module) → IsCompilable m → AreConstant (m ∷ [])
 are_constant m ok fid p e = let f = (image_of m ok).functions fid p e in (f.value, f.constant)

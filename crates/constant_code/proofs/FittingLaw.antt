@@ -1,24 +1,24 @@
 -- The parts that are compiled meet the rules of the format.
-use Rattle.std.proofs.Common.{◌≡◌, ℕ, zero, suc, ℤ, pos, ◌+◌, ◌*◌, ◌^◌, ◌<◌, ◌≤◌, ◌++◌, List, [], ◌∷◌, Bool, true, false, length, map, refl, ap, subst, sym, ◌∙◌, append_assoc, append-nil, arith, length-append, if◌then◌else◌}
-use Rattle.std.specs.List.{AllByRecursion, list_any}
+use Rattle.std.proofs.Common.{◌≡◌, ℕ, zero, suc, ◌+◌, ◌*◌, ◌^◌, ◌<◌, ◌≤◌, ◌++◌, List, [], ◌∷◌, Bool, true, false, length, map, refl, ap, subst, sym, ◌∙◌, append_assoc, append-nil, arith, length-append, if◌then◌else◌}
+use Rattle.std.specs.List.{AllByRecursion}
 use Rattle.std.specs.Str.{is_utf8, chars}
 use Rattle.beam_code.specs.declared.module.Function.{Function}
 use Rattle.beam_code.specs.declared.module.Module.{Module}
 use Rattle.beam_code.specs.Function.{cost_of}
-use Rattle.constant_code.proofs.CompiledLaw.{few, length-code_of}
-use Rattle.constant_code.specs.Compiled.{value_of, IsReady, words_of, code_of, native_of, natives_from, with_names, export_name, function_name, atoms_of, compiled, IsCompilable, most_units}
-use Rattle.constant_code.specs.Image.{IsConstant}
-use Rattle.constant_code.specs.Words.{entry_instrs, return_instrs, end_instrs, constant_instrs, constant_words, constant_length}
-use Rattle.native_link.specs.Atoms.{is_name, is_among}
-use Rattle.native_link.specs.Fitting.{IsFitting, IsSized, IsSizedNative, IsSizedDescriptor, IsWord, IsName, IsNew, and_atom, NativeFits, after_native, turn, first_turn, total_count}
+use Rattle.constant_code.proofs.CompiledLaw.{length-code_of}
+use Rattle.constant_code.specs.Compiled.{value_of, IsReady, words_of, code_of, natives_from, with_names, export_name, function_name, atoms_of, compiled, IsCompilable}
+use Rattle.constant_code.specs.Words.{entry_instrs, return_instrs, end_instrs, constant_instrs, constant_length}
+use Rattle.native_link.specs.Atoms.{is_among}
+use Rattle.native_link.specs.declared.limits.TheConstants.{MOST_NATIVES}
+use Rattle.native_link.specs.Fitting.{IsFitting, IsSized, IsSizedNative, IsWord, IsName, IsNew, and_atom, NativeFits, after_native, turn, total_count}
 use Rattle.native_link.specs.Follow.{Follow}
 use Rattle.sparc_code.proofs.Laws.{encoded_below}
 use Rattle.sparc_code.specs.Code.{encoded, IsInWidth}
 use Rattle.sparc_code.specs.declared.instruction.Instr.{Instr}
 use Rattle.tagged_words.proofs.WordLaws.{small_word-below}
 use Rattle.tagged_words.specs.Atoms.{first_atoms}
-use Rattle.tagged_words.specs.Laid.{same_text, with_atom}
-use Rattle.tagged_words.specs.Word.{small_word, IsSmall}
+use Rattle.tagged_words.specs.Laid.{with_atom}
+use Rattle.tagged_words.specs.Word.{small_word}
 
 -- one more atom, which is new
 follow_end : (e xs : List (List ℕ)) (a : List ℕ) → Follow IsNew and_atom e xs → is_among a (e ++ xs) ≡ false → Follow IsNew and_atom e (xs ++ a ∷ [])
@@ -87,7 +87,7 @@ length-natives_from : (from n : ℕ) → length (natives_from from n) ≡ n
 length-natives_from from zero = refl
 length-natives_from from (suc n) = let rest = length-natives_from (from + 1) n in omega arith
 
-sized_natives : (from n : ℕ) → from + n ≤ most_units → AllByRecursion IsSizedNative (natives_from from n)
+sized_natives : (from n : ℕ) → from + n ≤ MOST_NATIVES → AllByRecursion IsSizedNative (natives_from from n)
 sized_natives from zero low = tt
 sized_natives from (suc n) low = (record { fid = omega arith; first = omega arith; count = omega arith }, sized_natives (from + 1) n (omega arith))
 
@@ -123,7 +123,7 @@ code_is (f ∷ fs) all = all_append IsWord (words_of f) (code_of fs) (words_are 
 pub compiled_fits : (m : Module) → IsCompilable m → IsFitting (compiled m)
 compiled_fits m ok =
     let table = atoms_table m ok in
-    let functions = few m ok in
+    let functions = ok.few in
     let named = length-map_names export_name m.exports in
     let called = length-map_names function_name m.functions in
     let exports = ok.exports in
@@ -150,7 +150,7 @@ compiled_sized m ok =
       atoms = (atoms_table m ok).names;
       literals = tt;
       roots = tt;
-      natives = (let most = few m ok in sized_natives 0 (length m.functions) (omega arith));
+      natives = (let most = ok.few in sized_natives 0 (length m.functions) (omega arith));
       code = code_is m.functions ok.functions;
       descriptors = tt;
     }

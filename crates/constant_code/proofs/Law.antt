@@ -12,7 +12,9 @@ use Rattle.constant_code.proofs.Paths.{EndsSo, entered, out_of_reductions, stack
 use Rattle.constant_code.proofs.Places.{full_step-plain}
 use Rattle.constant_code.proofs.Rows.{lt_or_le, MeansSo, begun, means_spent, means_full, means_value, Means, means}
 use Rattle.constant_code.proofs.Steps.{Runs, standing, clear, at}
+use Rattle.std.specs.Prelude.{is_some}
 use Rattle.constant_code.specs.Image.{IsConstant, IsConstantFunction, IsConstantImage, most_items, ConstantsAreFaithful, AreConstant, IsSound, IsOutcome, HasMeaning, ConstantsHaveMeanings}
+use Rattle.constant_code.specs.Line.{meant_line}
 use Rattle.faithful_image.specs.Agreement.{Agrees, IsSameOutcome, store_of}
 use Rattle.faithful_image.specs.Call.{Call, IsFitting, loaded, run_of, meaning_of, start}
 use Rattle.faithful_image.specs.Faithful.{AgreesWith, IsApart, IsOver}
@@ -176,6 +178,9 @@ module _ (ms : List Module) (functions : AreConstant ms) (call : Call) (fits : I
 
   pub has_meaning : HasMeaning ms call
   has_meaning = record { outcome = subst IsOutcome (sym done_in_time) means_here.sound; never_stuck = never }
+
+  pub has_line : IfDone (meaning_of ms call) (λ f. is_some (meant_line f.outcome) ≡ true)
+  has_line = subst (λ st. IfDone st (λ f. is_some (meant_line f.outcome) ≡ true)) (sym done_in_time) means_here.has_line
 
 pub constants_have_meanings : ConstantsHaveMeanings
 constants_have_meanings ms functions call fits = has_meaning ms functions call fits

@@ -6,3 +6,4 @@ pub mod Calls
 pub mod Law
 pub mod CompiledLaw
 pub mod FittingLaw
+pub mod LineLaw

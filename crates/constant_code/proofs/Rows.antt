@@ -1,6 +1,7 @@
 -- The rows of a function that returns a constant.
 use Rattle.std.proofs.Common.{◌≡◌, ◌≢◌, ℕ, ℤ, ◌+◌, ◌-◌, ◌<◌, ◌≤◌, ◌⊎◌, inl, inr, true, false, Some, List, [], slice_get, slice_set, nat_eq, nat_lt, refl, ap, ◌∙◌, arith}
 use Rattle.std.proofs.lemmas.Bool.Decides.{leb_tells, nat_tests}
+use Rattle.std.specs.Prelude.{is_some}
 use Rattle.beam_code.specs.declared.call.Limits.{Limits}
 use Rattle.beam_code.specs.declared.module.Module.{Module}
 use Rattle.beam_code.specs.Frame.{beam_step, row_at, after, state_of}
@@ -9,6 +10,7 @@ use Rattle.beam_code.specs.Meaning.{first_state, entry_of}
 use Rattle.beam_code.specs.Row.{local_step, item_row}
 use Rattle.beam_code.specs.State.{Local, BeamState, Finish, Outcome, Returned, Ended, OutOfReductions, StackFull, Stuck}
 use Rattle.constant_code.specs.Image.{IsConstant}
+use Rattle.constant_code.specs.Line.{meant_line}
 use Rattle.small_step.proofs.Runs.{done_stays, steps_on, run-one}
 use Rattle.small_step.specs.Stage.{Still, Done, run}
 use Rattle.term_tree.specs.Tree as t
@@ -84,22 +86,24 @@ module _ (ms : List Module) (limits : Limits) (fid : ℕ) (p : Placed) (value : 
     pub finish : Finish
     pub within : run (beam_step ms limits) 3 begun ≡ Done finish
     pub sound : finish.outcome ≢ Ended Stuck
+    pub has_line : is_some (meant_line finish.outcome) ≡ true
 
-  means_so : (rows : ℕ) (meant : Outcome) → rows ≤ 3 → meant ≢ Ended Stuck → MeansSo ms limits rows begun meant → Means
-  means_so rows meant low sound m =
+  means_so : (rows : ℕ) (meant : Outcome) → rows ≤ 3 → meant ≢ Ended Stuck → is_some (meant_line meant) ≡ true → MeansSo ms limits rows begun meant → Means
+  means_so rows meant low sound line m =
       record {
         finish = record { outcome = meant; state = m.0 };
         within = done_stays (beam_step ms limits) rows 3 begun (record { outcome = meant; state = m.0 }) m.1 low;
         sound = sound;
+        has_line = line;
       }
 
   pub means : Means
   means =
       elim (lt_or_le 0 limits.reductions) [
-        | inr none ↦ means_so 1 (Ended OutOfReductions) (omega arith) (λ e. cc) (means_spent (omega arith))
+        | inr none ↦ means_so 1 (Ended OutOfReductions) (omega arith) (λ e. cc) refl (means_spent (omega arith))
         | inl some ↦
             elim (lt_or_le limits.stack (cost_of p.function)) [
-              | inl full ↦ means_so 1 (Ended StackFull) (omega arith) (λ e. cc) (means_full some full)
-              | inr fits ↦ means_so 3 (Returned (t.Int value)) (omega arith) (λ e. cc) (means_value some fits)
+              | inl full ↦ means_so 1 (Ended StackFull) (omega arith) (λ e. cc) refl (means_full some full)
+              | inr fits ↦ means_so 3 (Returned (t.Int value)) (omega arith) (λ e. cc) refl (means_value some fits)
             ]
       ]

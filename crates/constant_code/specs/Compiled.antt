@@ -11,9 +11,9 @@ use Rattle.beam_code.specs.declared.module.Function.{Function}
 use Rattle.beam_code.specs.declared.module.Item.{Item}
 use Rattle.beam_code.specs.declared.module.Module.{Module}
 use Rattle.beam_code.specs.Function.{cost_of, items_of}
-use Rattle.constant_code.specs.Image.{IsConstant}
+use Rattle.constant_code.specs.Image.{IsConstant, most_items}
 use Rattle.constant_code.specs.Words.{constant_words, constant_length}
-use Rattle.native_link.specs.declared.limits.TheConstants.{MOST_TEXT_BYTES}
+use Rattle.native_link.specs.declared.limits.TheConstants.{MOST_NATIVES, MOST_TEXT_BYTES}
 use Rattle.native_link.specs.declared.parts.Native.{Native}
 use Rattle.native_link.specs.declared.parts.Parts.{Parts}
 use Rattle.native_link.specs.Fitting.{IsName}
@@ -92,15 +92,12 @@ compiled m =
       descriptors = [];
     }
 
--- how many items the functions of a module may have
-abbrev pub most_units : ℕ
-most_units = 262144
-
 -- a module that is compiled so
 pub record IsCompilable (m : Module) : Type 0 where
   pub functions : AllByRecursion IsReady m.functions
-  pub items : items_of (m ∷ []) ≤ most_units
-  pub exports : length m.exports ≤ most_units
+  pub few : length m.functions ≤ MOST_NATIVES
+  pub items : items_of (m ∷ []) ≤ most_items
+  pub exports : length m.exports ≤ MOST_NATIVES
   pub text : length m.text ≤ MOST_TEXT_BYTES
   pub name : IsName m.name
   pub export_names : AllByRecursion IsName (map export_name m.exports)

@@ -1,3 +1,4 @@
 pub mod Words
 pub mod Image
 pub mod Compiled
+pub mod Line

@@ -2,3 +2,8 @@ pub mod SayingLaws
 pub mod PlainLaw
 pub mod ImageLaw
 pub mod CommandLaw
+pub mod OneModule
+pub mod TableLaw
+pub mod ReadLaw
+pub mod MeaningLaw
+pub mod Numbers

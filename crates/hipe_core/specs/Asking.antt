@@ -1,15 +1,25 @@
 -- What the code says of what the words ask (docs/COMMANDS.md).
-use Rattle.std.specs.Prelude.{ℕ, ◌≡◌, List, Option, Some, None, is_some, true}
+use Rattle.std.specs.Prelude.{ℕ, ◌≡◌, ◌+◌, ◌-◌, ◌*◌, ◌&&◌, nat_le, if◌then◌else◌, Option, Some, None, List, [], ◌∷◌, is_some, true}
+use Rattle.asm_text.specs.Entry.{entry_of}
 use Rattle.hipe_core.specs.declared.asking.Asked as code
 use Rattle.hipe_core.specs.declared.asking.Asked.TheVariants as a
-use Rattle.hipe_core.specs.Command.{entry_of, Asked, Nothing, Compile, Run}
+use Rattle.hipe_core.specs.declared.asking.RunWords as words
+use Rattle.mode_switch.specs.Machine.{AreInRange}
+use Rattle.hipe_core.specs.Words.{Asked, Nothing, Compile, Run, Three, is_digit}
 
 -- the code's answer is that
 abbrev pub IsAsked : code.Asked → Asked → Type 0
 IsAsked a.Nothing q = q ≡ Nothing
 IsAsked (a.Compile file) q = q ≡ Compile file.now
-IsAsked (a.Run image entry) q = (q ≡ Run image.now entry.now) × (is_some (entry_of entry.now) ≡ true)
+IsAsked (a.Run image entry args limits) q = (q ≡ Run image.now entry.now args.now limits) × (is_some (entry_of entry.now) ≡ true) × AreInRange limits
 
--- two names, where there are two
-abbrev pub IsNames : Option (List ℕ × List ℕ) → Option (List ℕ × List ℕ) → Type 0
-IsNames expected found = found ≡ expected
+-- the code tells the three words
+abbrev pub three_in : Option words.RunWords → Option Three
+three_in None = None
+three_in (Some w) = Some (record { first = w.image.now; second = w.entry.now; third = w.args.now })
+
+-- the number, digit by digit, until it passes `most`
+abbrev pub number_from : ℕ → ℕ → List ℕ → Option ℕ
+number_from most value [] = Some value
+number_from most value (d ∷ ds) =
+    if is_digit d && nat_le (value * 10 + (d - 48)) most then number_from most (value * 10 + (d - 48)) ds else None

@@ -1,5 +1,5 @@
 -- What is written for a module, and for a plain text (docs/COMMANDS.md, compile).
-use Rattle.std.specs.Prelude.{ℕ, ◌≡◌, ◌≢◌, IsTrue, List, [], ◌∷◌, length}
+use Rattle.std.specs.Prelude.{ℕ, ◌≡◌, List, [], ◌∷◌, length}
 use Rattle.beam_code.specs.declared.module.Module.{Module}
 use Rattle.constant_code.specs.Compiled.{numbers_from, atoms_of}
 use Rattle.constant_code.specs.Image.{HasMeaning}
@@ -8,10 +8,7 @@ use Rattle.faithful_image.specs.Faithful.{IsFaithful}
 use Rattle.native_link.specs.declared.parts.Parts.{Parts}
 use Rattle.native_link.specs.Fitting.{IsFitting, IsSized}
 use Rattle.native_link.specs.Spelling.{spelling}
-use Rattle.plain_text.specs.declared.plain.Plain.{Plain}
-use Rattle.plain_text.specs.Module.{module_of}
-use Rattle.plain_text.specs.Plain.{is_plain}
-use Rattle.plain_text.specs.Text.{text_of}
+use Rattle.plain_text.specs.Reading.{IsPlainText}
 
 -- the bytes are an image of this one module, which does what the module's text says; all functions are native, and
 -- there is no literal and no descriptor; and each call that fits has a meaning
@@ -29,11 +26,6 @@ pub record IsImageOf (m : Module) (bytes : List ℕ) : Type 0 where
 
 -- the text is plain, and the bytes are an image of its module
 pub record IsCompiled (text bytes : List ℕ) : Type 0 where
-  pub plain : Plain
-  pub is_plain : IsTrue (is_plain plain)
-  pub spells : text_of plain ≡ text
-  pub image : IsImageOf (module_of text plain) bytes
-
--- the text is that of no plain module
-abbrev pub IsNotPlain : List ℕ → Type 0
-IsNotPlain text = (p : Plain) → IsTrue (is_plain p) → text_of p ≢ text
+  pub source : Module
+  pub plain : IsPlainText text source
+  pub image : IsImageOf source bytes

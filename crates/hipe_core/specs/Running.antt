@@ -1,7 +1,9 @@
 -- How a refusal of an image ends a command (docs/COMMANDS.md, run).
-use Rattle.hipe_core.specs.Command.{IsFlaw}
+use Rattle.hipe_core.specs.Command.{IsFlaw, IsTextFlaw}
 use Rattle.hipe_core.specs.declared.ending.Ending.{Ending}
-use Rattle.hipe_core.specs.declared.ending.Ending.TheVariants.{NotBuilt, Refused, NoMemory}
+use Rattle.hipe_core.specs.declared.ending.Ending.TheVariants.{NotBuilt, Refused, TextRefused, ArgsRefused, NoMemory}
+use Rattle.asm_text.specs.declared.token.TextRefusal.{TextRefusal}
+use Rattle.asm_text.specs.declared.token.TextRefusal.TheVariants as refusal
 use Rattle.native_link.specs.declared.refusal.ImageRefusal.{ImageRefusal}
 use Rattle.native_link.specs.declared.refusal.ImageRefusal.TheVariants as fault
 
@@ -19,3 +21,14 @@ RefusedAs e (Refused f at) = IsFlaw e f at
 RefusedAs e NotBuilt = IsNotBuilt e
 RefusedAs e NoMemory = IsMemory e
 RefusedAs e _ = ⊥
+
+-- and of a refusal of a text: of a module, and of arguments
+abbrev pub TextRefusedAs : TextRefusal → Ending → Type 0
+TextRefusedAs e (TextRefused f line) = IsTextFlaw e f line
+TextRefusedAs (refusal.Memory e) NoMemory = Unit {0}
+TextRefusedAs e _ = ⊥
+
+abbrev pub ArgsRefusedAs : TextRefusal → Ending → Type 0
+ArgsRefusedAs e (ArgsRefused f line) = IsTextFlaw e f line
+ArgsRefusedAs (refusal.Memory e) NoMemory = Unit {0}
+ArgsRefusedAs e _ = ⊥

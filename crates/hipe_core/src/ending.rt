@@ -17,6 +17,22 @@ pub enum Flaw {
     Long,
 }
 
+/// Why a text is refused.
+#[derive(Clone, Copy, PartialEq, Eq, Debug)]
+pub enum TextFlaw {
+    /// A token cannot stand there, is none, or is missing.
+    Syntax,
+    /// An integer has more than 28 bits.
+    Wide,
+    /// The 201st bracket opens.
+    Deep,
+    Float,
+    Based,
+    Character,
+    Binary,
+    Map,
+}
+
 /// How a command ended.
 #[derive(Clone, Copy, PartialEq, Eq, Debug)]
 pub enum Ending {
@@ -26,8 +42,12 @@ pub enum Ending {
     Said(u8),
     /// Its words are none that the program knows.
     Usage,
-    /// The entry of the call is not exported.
-    NotExported,
+    /// The text of a module is refused: why, and in which line.
+    TextRefused(TextFlaw, u32),
+    /// The text of the arguments is refused: why, and in which line.
+    ArgsRefused(TextFlaw, u32),
+    /// The function of the call is not exported; it is one of so many arguments.
+    NotExported(usize),
     /// A file could not be read.
     CannotRead,
     /// A file holds more bytes than the limit.

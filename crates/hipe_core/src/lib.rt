@@ -7,6 +7,8 @@ mod commands;
 mod compiling;
 mod emitting;
 mod ending;
+mod laws;
+mod refusing;
 mod running;
 mod saying;
 
@@ -14,7 +16,8 @@ pub use building::parts;
 pub use commands::command;
 pub use compiling::compile;
 pub use emitting::emit;
-pub use ending::{Ending, Flaw};
+pub use ending::{Ending, Flaw, TextFlaw};
+pub use laws::{compiled_images_are_read, compiled_runs_print_their_meaning};
 
 #[cfg(test)]
 mod tests;

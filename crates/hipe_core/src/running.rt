@@ -1,25 +1,22 @@
-ghost use Rattle.hipe_core.specs.Command.{RunsBytes, SaysOutcome, RunsOutcome};
+//! A call is run on an image.
+
+ghost use Rattle.hipe_core.specs.Command.{RunsBytes, RunsFile, RunsOutcome, RunsWith, SaysOutcome, called, function_text, opened};
 ghost use Rattle.hipe_core.specs.Saying.{seen};
-ghost use Rattle.hipe_core.specs.Running.{RefusedAs};
+ghost use Rattle.hipe_core.specs.Running.{ArgsRefusedAs, RefusedAs};
+ghost use Rattle.mode_switch.specs.Machine.{AreInRange};
 ghost use Rattle.native_link.specs.Image.{AreReadings};
 ghost use Rattle.native_link.specs.declared.limits.TheConstants.{MOST_IMAGE_BYTES};
-ghost use Rattle.std.specs.Prelude.{◌≤◌, length};
+ghost use Rattle.std.specs.Prelude.{◌≡◌, ◌≤◌, Some, IfOk, length, string_bytes};
 
+use crate::refusing::kind_flaw;
 use crate::saying::put_piece;
-use crate::{Ending, Flaw};
-use hipe_base::Sink;
+use crate::{Ending, Flaw, TextFlaw};
+use asm_text::{TextRefusal, read_args};
+use hipe_base::{Files, ReadRefusal, Sink, read_file};
 use mode_switch::{Call, Limits, Machine, OpenRefusal, Outcome};
-use native_link::{Image, ImageRefusal, read_image};
-use sqlite_items::Items;
-use std::alloc::Global;
-use term_tree::Name;
-
-/// The limits of a call that names none.
-const DEFAULT: Limits = Limits {
-    reductions: 1_000_000,
-    heap: 1_048_576,
-    stack: 1_048_576,
-};
+use native_link::{Image, ImageRefusal, MOST_IMAGE_BYTES, read_image};
+use std::alloc::{AllocError, Global};
+use term_tree::{Name, name_text};
 
 /// How a refusal of an image ends the command.
 fn refused(refusal: &ImageRefusal) -> Ending
@@ -56,23 +53,14 @@ fn say_outcome<O: Sink>(alloc: Global, machine: &Machine, outcome: &Outcome, out
 }
 
 /// Runs a call on an image.
-fn run_call<O: Sink>(
-    alloc: Global,
-    image: Image,
-    owner: Name,
-    function: Name,
-    out: &mut O,
-) -> Ending
-    requires { AreReadings image.parts.texts image.modules }
-    ensures { RunsOutcome result image owner function (seen (O.written out.old) (O.room out.old) (O.faults out.old)) (seen (O.written out.new) (O.room out.new) (O.faults out.new)) }
+fn run_call<O: Sink>(alloc: Global, image: Image, call: Call, limits: Limits, out: &mut O) -> Ending
+    requires read { AreReadings image.parts.texts image.modules }
+    requires limits { AreInRange limits }
+    ensures { RunsOutcome result image (called call.«module» call.function call.args limits) (seen (O.written out.old) (O.room out.old) (O.faults out.old)) (seen (O.written out.new) (O.room out.new) (O.faults out.new)) }
 {
-    let call = Call {
-        module: owner,
-        function,
-        args: Items::new(alloc),
-    };
-    match Machine::open(alloc, image, call, DEFAULT, Vec::new(alloc)) {
-        Err(OpenRefusal::NotExported) => Ending::NotExported,
+    let count = call.args.len();
+    match Machine::open(alloc, image, call, limits, Vec::new(alloc)) {
+        Err(OpenRefusal::NotExported) => Ending::NotExported(count),
         Err(OpenRefusal::ArgsDoNotFit) => unreachable!(),
         Err(OpenRefusal::Memory(_)) => Ending::NoMemory,
         Ok(machine) => {
@@ -84,18 +72,89 @@ fn run_call<O: Sink>(
 }
 
 /// Runs a call on the image with these bytes.
-pub fn run_bytes<O: Sink>(
+fn run_bytes<O: Sink>(
     alloc: Global,
     bytes: &[u8],
-    owner: Name,
-    function: Name,
+    call: Call,
+    limits: Limits,
     out: &mut O,
 ) -> Ending
-    requires { length bytes.now ≤ MOST_IMAGE_BYTES }
-    ensures { RunsBytes result bytes.now owner function (seen (O.written out.old) (O.room out.old) (O.faults out.old)) (seen (O.written out.new) (O.room out.new) (O.faults out.new)) }
+    requires size { length bytes.now ≤ MOST_IMAGE_BYTES }
+    requires limits { AreInRange limits }
+    ensures { RunsBytes result bytes.now (called call.«module» call.function call.args limits) (seen (O.written out.old) (O.room out.old) (O.faults out.old)) (seen (O.written out.new) (O.room out.new) (O.faults out.new)) }
 {
     match read_image(alloc, bytes) {
         Err(refusal) => refused(&refusal),
-        Ok(image) => run_call(alloc, image, owner, function, out),
+        Ok(image) => run_call(alloc, image, call, limits, out),
     }
+}
+
+/// Runs a call on the image in a file.
+fn run_file<F: Files, O: Sink>(
+    alloc: Global,
+    file: &str,
+    call: Call,
+    limits: Limits,
+    files: &mut F,
+    out: &mut O,
+) -> Ending
+    requires { AreInRange limits }
+    ensures { RunsFile result file.now (called call.«module» call.function call.args limits) (opened (F.held files.old) (F.faults files.old) (F.faults files.new) (F.taken files.old) (F.taken files.new)) (seen (O.written out.old) (O.room out.old) (O.faults out.old)) (seen (O.written out.new) (O.room out.new) (O.faults out.new)) }
+{
+    match read_file(alloc, files, file, MOST_IMAGE_BYTES) {
+        Err(ReadRefusal::Fault) => Ending::CannotRead,
+        Err(ReadRefusal::TooLong) => Ending::TooLong,
+        Err(ReadRefusal::Memory(_)) => Ending::NoMemory,
+        Ok(bytes) => run_bytes(alloc, bytes.as_slice(), call, limits, out),
+    }
+}
+
+/// How a refusal of arguments ends the command.
+fn args_refused(refusal: &TextRefusal) -> Ending
+    ensures { ArgsRefusedAs refusal.now result }
+{
+    match refusal {
+        TextRefusal::Syntax { line } => Ending::ArgsRefused(TextFlaw::Syntax, *line),
+        TextRefusal::Wide { line } => Ending::ArgsRefused(TextFlaw::Wide, *line),
+        TextRefusal::Deep { line } => Ending::ArgsRefused(TextFlaw::Deep, *line),
+        TextRefusal::Kind { line, kind } => Ending::ArgsRefused(kind_flaw(*kind), *line),
+        TextRefusal::Memory(_) => Ending::NoMemory,
+    }
+}
+
+/// Runs the function with these names on the arguments of a text.
+pub fn run_args<F: Files, O: Sink>(
+    alloc: Global,
+    file: &str,
+    names: (Name, Name),
+    args: &str,
+    limits: Limits,
+    files: &mut F,
+    out: &mut O,
+) -> Ending
+    requires { AreInRange limits }
+    ensures { RunsWith result file.now names args.now limits (opened (F.held files.old) (F.faults files.old) (F.faults files.new) (F.taken files.old) (F.taken files.new)) (seen (O.written out.old) (O.room out.old) (O.faults out.old)) (seen (O.written out.new) (O.room out.new) (O.faults out.new)) }
+{
+    match read_args(alloc, args.as_bytes()) {
+        Err(refusal) => args_refused(&refusal),
+        Ok(args) => {
+            let (module, function) = names;
+            let call = Call {
+                module,
+                function,
+                args,
+            };
+            run_file(alloc, file, call, limits, files, out)
+        }
+    }
+}
+
+/// The text of a function by its module's name and its own.
+pub fn label(alloc: Global, names: &(Name, Name)) -> Result<String, AllocError>
+    ensures { IfOk result (λ text. string_bytes text ≡ function_text (Some names.now)) }
+{
+    let mut text = name_text(alloc, &names.0)?;
+    text.push_str(":")?;
+    text.push_str(name_text(alloc, &names.1)?.as_str())?;
+    Ok(text)
 }

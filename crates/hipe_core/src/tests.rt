@@ -97,24 +97,125 @@ fn the_code_of_one(rt: HostRuntime) -> Result<(), Fail> {
     Ok(())
 }
 
+/// Whether a command over this file ends with this status and says this on standard error.
+fn says(
+    alloc: Global,
+    list: &[&str],
+    text: &[u8],
+    status: u8,
+    line: &str,
+) -> Result<bool, AllocError> {
+    let told = run_command(alloc, list, text, NEVER)?;
+    Ok(told.status == status && told.err.bytes() == line.as_bytes() && told.out.bytes().is_empty())
+}
+
 #[test]
-fn each_refusal_has_its_line(rt: HostRuntime) -> Result<(), Fail> {
+fn words_are_refused(rt: HostRuntime) -> Result<(), Fail> {
+    for words in [
+        &[][..],
+        &["compile"],
+        &["compile", "--native=all"],
+        &["compile", "e.S"],
+        &["compile", "--native=none", "e.S"],
+        &["compile", "--native=all", "--native=all", "e.S"],
+        &["compile", "--native=all", "--heap=1", "e.S"],
+        &["compile", "--native=all", "e.S", "e.S"],
+        &["--native=all", "compile", "e.S"],
+        &["run", "e.S", "one:f"],
+        &["run", "e.S", "one", "[]"],
+        &["run", "e.S", "One:f", "[]"],
+        &["run", "e.S", "one:f", "[]", "--heap"],
+        &["run", "e.S", "one:f", "[]", "--heap="],
+        &["run", "e.S", "one:f", "[]", "--heap=+1"],
+        &["run", "e.S", "one:f", "[]", "--heap=16777217"],
+        &["run", "e.S", "one:f", "[]", "--heap=1", "--heap=1"],
+        &["run", "e.S", "one:f", "[]", "--reductions=1000000001"],
+        &[
+            "run",
+            "e.S",
+            "one:f",
+            "[]",
+            "--reductions=99999999999999999999",
+        ],
+        &["run", "e.S", "one:f", "[]", "--junk=0000000F"],
+        &["list", "e.S"],
+    ] {
+        assert!(rt;
+            says(rt.alloc(), words, EMPTY, 6, "hipe: usage\n")?,
+            "{words:?}"
+        );
+    }
+    Ok(())
+}
+
+#[test]
+fn texts_are_refused(rt: HostRuntime) -> Result<(), Fail> {
+    for (text, status, line) in [
+        ("{a,1.5}.", 3, "hipe: e.S:1: kind float\n"),
+        ("\n\n{a,$b}.", 3, "hipe: e.S:3: kind character\n"),
+        ("{a,16#f}.", 3, "hipe: e.S:1: kind based\n"),
+        ("<<1>>.", 3, "hipe: e.S:1: kind binary\n"),
+        ("#{}.", 3, "hipe: e.S:1: kind map\n"),
+        ("134217728.", 3, "hipe: e.S:1: wide\n"),
+        ("{x,0},}.", 3, "hipe: e.S:1: syntax\n"),
+        ("{module, e}", 3, "hipe: e.S:1: syntax\n"),
+        ("", 11, "hipe: e.S: not built\n"),
+        ("{module, e}.", 11, "hipe: e.S: not built\n"),
+    ] {
+        let words = ["compile", "e.S", "--native=all"];
+        assert!(rt;
+            says(rt.alloc(), &words, text.as_bytes(), status, line)?,
+            "{text}"
+        );
+    }
+    Ok(())
+}
+
+#[test]
+fn deep_and_long_texts_are_refused(rt: HostRuntime) -> Result<(), Fail> {
     let alloc = rt.alloc();
     let words = ["compile", "--native=all", "e.S"];
-    let none = run_command(alloc, &[], EMPTY, NEVER)?;
-    assert_eq!(rt; none.status, 6);
-    assert_eq!(rt; none.err.bytes(), b"hipe: usage\n".as_slice());
-    let cut = run_command(alloc, &words, &EMPTY[..58], NEVER)?;
-    assert_eq!(rt; cut.status, 11);
-    assert_eq!(rt; cut.err.bytes(), b"hipe: e.S: not built\n".as_slice());
-    assert!(rt; cut.out.bytes().is_empty());
-    let missing = run_command(alloc, &["compile", "--native=all", "f.S"], EMPTY, NEVER)?;
-    assert_eq!(rt; missing.status, 7);
-    assert_eq!(rt; missing.err.bytes(), b"hipe: cannot read f.S\n".as_slice());
+    let deep = vec![in alloc; b'['; 201]?;
+    assert!(rt; says(alloc, &words, deep.as_slice(), 3, "hipe: e.S:1: deep\n")?);
+    let long = vec![in alloc; b' '; 4_194_305]?;
+    let mut files = MemFiles::new(alloc, 100_000)?;
+    files.add("e.S", long.as_slice())?;
+    let mut out = MemSink::new(alloc, 1, 1)?;
+    let mut err = MemSink::new(alloc, 100, 100)?;
+    let list = words_of(alloc, &words)?;
+    assert_eq!(rt;
+        command(alloc, list.as_slice(), &mut files, &mut out, &mut err),
+        10
+    );
+    assert_eq!(rt; err.bytes(), b"hipe: e.S: too long\n".as_slice());
+    Ok(())
+}
+
+#[test]
+fn files_and_sinks_fail(rt: HostRuntime) -> Result<(), Fail> {
+    let alloc = rt.alloc();
+    let words = ["compile", "--native=all", "e.S"];
+    let other = ["compile", "--native=all", "f.S"];
+    assert!(rt; says(alloc, &other, EMPTY, 7, "hipe: cannot read f.S\n")?);
     let full = run_command(alloc, &words, EMPTY, 1)?;
     assert_eq!(rt; full.status, 8);
     assert_eq!(rt; full.err.bytes(), b"hipe: cannot write\n".as_slice());
     assert_eq!(rt; full.out.bytes().len(), 100);
+    Ok(())
+}
+
+#[test]
+fn a_plain_text_is_known_by_its_forms(rt: HostRuntime) -> Result<(), Fail> {
+    let alloc = rt.alloc();
+    let words = ["compile", "--native=all", "e.S"];
+    let text =
+        b"%% by hand\n{'module', 'e e'} . {exports, [{'F',0}]}. {attributes, \"\"}.\n{labels, 3}.\n{function, 'F', 0, 2}. {label,1}. {func_info,{atom,'e e'},{atom,'F'},0}.\n{label,2}. {move,{integer,-007},{x,0}}. return.";
+    let made = run_command(alloc, &words, text, NEVER)?;
+    assert_eq!(rt; made.status, 0);
+    let run = ["run", "e.S", "'e e':'\\x46'", " [ % none\n ] "];
+    let told = run_command(alloc, &run, made.out.bytes(), NEVER)?;
+    assert_eq!(rt; told.status, 0);
+    assert_eq!(rt; told.out.bytes(), b"return -7\n".as_slice());
     Ok(())
 }
 
@@ -157,26 +258,72 @@ fn an_image_runs(rt: HostRuntime) -> Result<(), Fail> {
     Ok(())
 }
 
+/// The steps of a machine are counted in its own tests; here only that the limit is passed on.
 #[test]
-fn an_image_is_refused(rt: HostRuntime) -> Result<(), Fail> {
+fn limits_are_passed_on(rt: HostRuntime) -> Result<(), Fail> {
     let alloc = rt.alloc();
-    let words = ["run", "e.S", "e:f", "[]"];
+    let one = run_command(alloc, &["compile", "--native=all", "e.S"], ONE, NEVER)?;
+    for (option, status, line) in [
+        ("--reductions=0", 2, "end out_of_reductions\n"),
+        ("--reductions=01", 0, "return 1\n"),
+        ("--stack=1", 2, "end stack_full\n"),
+        ("--stack=2", 0, "return 1\n"),
+        ("--heap=0", 0, "return 1\n"),
+    ] {
+        let words = ["run", option, "e.S", "one:f", "[]"];
+        let told = run_command(alloc, &words, one.out.bytes(), NEVER)?;
+        assert_eq!(rt; told.status, status, "{option}");
+        assert_eq!(rt; told.out.bytes(), line.as_bytes(), "{option}");
+    }
+    let code = with_code(alloc, &[0x1080_0000, 0x0100_0000])?;
+    let words = ["run", "e.S", "one:f", "[]", "--reductions=10"];
+    let told = run_command(alloc, &words, code.as_slice(), NEVER)?;
+    assert_eq!(rt; told.status, 2);
+    assert_eq!(rt; told.out.bytes(), b"end steps_spent\n".as_slice());
+    Ok(())
+}
+
+#[test]
+fn arguments_and_images_are_refused(rt: HostRuntime) -> Result<(), Fail> {
+    let alloc = rt.alloc();
+    let one = run_command(alloc, &["compile", "--native=all", "e.S"], ONE, NEVER)?;
+    for (entry, args, status, line) in [
+        ("one:f", "[1,", 3, "hipe: args:1: syntax\n"),
+        ("one:f", "", 3, "hipe: args:1: syntax\n"),
+        ("one:f", "[\n134217728]", 3, "hipe: args:2: wide\n"),
+        ("one:f", "[1.0]", 3, "hipe: args:1: kind float\n"),
+        ("one:f", "[1|2]", 3, "hipe: args:1: syntax\n"),
+        ("one:f", "[1]", 6, "hipe: not exported one:f/1\n"),
+        ("one:g", "[]", 6, "hipe: not exported one:g/0\n"),
+        (
+            "'one':'end'",
+            "[a,\"b\"]",
+            6,
+            "hipe: not exported one:'end'/2\n",
+        ),
+    ] {
+        let words = ["run", "e.S", entry, args];
+        assert!(rt;
+            says(alloc, &words, one.out.bytes(), status, line)?,
+            "{entry} {args}"
+        );
+    }
+    let missing = ["run", "f.img", "one:f", "[]"];
+    assert!(rt;
+        says(
+            alloc,
+            &missing,
+            one.out.bytes(),
+            7,
+            "hipe: cannot read f.img\n"
+        )?
+    );
     let made = run_command(alloc, &["compile", "--native=all", "e.S"], EMPTY, NEVER)?;
     let image = made.out.bytes();
-    let exported = run_command(alloc, &words, image, NEVER)?;
-    assert_eq!(rt; exported.status, 6);
-    assert_eq!(rt;
-        exported.err.bytes(),
-        b"hipe: not exported e:f/0\n".as_slice()
-    );
-    let cut = run_command(alloc, &words, &image[..image.len().min(270)], NEVER)?;
-    assert_eq!(rt; cut.status, 5);
-    assert_eq!(rt;
-        cut.err.bytes(),
-        b"hipe: e.S: image short at 268\n".as_slice()
-    );
-    let usage = run_command(alloc, &["run", "e.S", "e", "[]"], image, NEVER)?;
-    assert_eq!(rt; usage.status, 6);
-    assert_eq!(rt; usage.err.bytes(), b"hipe: usage\n".as_slice());
+    let none = ["run", "e.S", "e:f", "[]"];
+    assert!(rt; says(alloc, &none, image, 6, "hipe: not exported e:f/0\n")?);
+    let words = ["run", "e.S", "e:f", "[]"];
+    let cut = &image[..image.len().min(270)];
+    assert!(rt; says(alloc, &words, cut, 5, "hipe: e.S: image short at 268\n")?);
     Ok(())
 }

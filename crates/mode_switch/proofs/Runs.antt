@@ -1,9 +1,10 @@
 -- A run by steps: what a step leaves runs to where the whole runs to.
-use Rattle.std.proofs.Common.{◌≡◌, ℕ, suc, ◌+◌, ◌-◌, ◌^◌, ◌≤◌, ◌<◌, ◌∙◌, ap, sym, subst, refl, arith}
+use Rattle.std.proofs.Common.{◌≡◌, ℕ, suc, ◌+◌, ◌-◌, ◌^◌, ◌≤◌, ◌<◌, ◌∙◌, [], ap, sym, subst, refl, arith}
 use Rattle.std.specs.Prelude.{Some, None}
-use Rattle.mode_switch.specs.Machine.{Progress, Ran, one_more, ran, ran_for, ran_to, ran_with, steps_taken, taken_after, after_step, answer_of, stepped, stepped_with, step_answer, step_answer_with}
-use Rattle.mode_switch.specs.Run.{full_step, mixed_run, bound}
-use Rattle.mode_switch.specs.State.{MixedState, Finish}
+use Rattle.mode_switch.specs.Machine.{Progress, Ran, answered, one_more, ran, ran_for, ran_to, ran_with, steps_taken, taken_after, after_step, answer_of, stepped, stepped_with, step_answer, step_answer_with}
+use Rattle.mode_switch.specs.Run.{bound, first_state, full_step, mixed_run}
+use Rattle.mode_switch.specs.Start.{opened}
+use Rattle.mode_switch.specs.State.{Finish, Loaded, MixedState}
 use Rattle.mode_switch.specs.declared.outcome.Outcome.{Outcome}
 use Rattle.mode_switch.specs.declared.outcome.Outcome.TheVariants.{Ended}
 use Rattle.mode_switch.specs.declared.outcome.End.TheVariants.{StepsSpent}
@@ -93,3 +94,16 @@ run_spent p b going e le =
     sym (ran_going p b going e ∙ ap (ran_for p) none
     ∙ ap (λ k. over_with (record { loaded = p.loaded; state = p.state; outcome = None; steps = k }) (Ended StepsSpent)) as_is
     ∙ ap (λ k. over_with (record { loaded = p.loaded; state = p.state; outcome = k; steps = p.steps }) (Ended StepsSpent)) (sym going))
+
+-- the answer of a run from the start of a call is that of a run of as many steps as the bound
+answer_to : (p : Progress) (steps : ℕ) (x : Stage MixedState Finish) → (ran_to p steps x).answer ≡ answered x
+answer_to p steps (Still s) = refl
+answer_to p steps (Done f) = refl
+
+less_none : (n : ℕ) → n - 0 ≡ n
+less_none n = omega arith
+
+pub answer_opened : (g : Loaded) (fid : ℕ) → (ran (opened g fid)).answer ≡ answered (mixed_run g (bound g) (first_state g fid [] []))
+answer_opened g fid =
+    answer_to (opened g fid) (0 + steps_taken (full_step g) (bound g - 0) (first_state g fid [] [])) (mixed_run g (bound g - 0) (first_state g fid [] []))
+    ∙ ap (λ n. answered (mixed_run g n (first_state g fid [] []))) (less_none (bound g))

@@ -93,6 +93,11 @@ ran_to p steps (Done f) =
 abbrev pub ran_for : Progress → ℕ → Ran
 ran_for p n = ran_to p (p.steps + steps_taken (full_step p.loaded) n p.state) (mixed_run p.loaded n p.state)
 
+-- the outcome of a run, or that its steps are spent where it goes on
+abbrev pub answered : Stage MixedState Finish → Outcome
+answered (Still s) = Ended StepsSpent
+answered (Done f) = f.outcome
+
 -- the steps that are left to the bound; a run that is over stays as it is
 abbrev pub ran_with : Progress → Option Outcome → Ran
 ran_with p None = ran_for p (bound p.loaded - p.steps)

@@ -14,3 +14,6 @@ pub use addresses::{MOST_ITEMS, MOST_REDUCTIONS, MOST_WORDS};
 pub use beam_code::{Limits, RaiseClass};
 pub use machine::{Call, Machine, OpenRefusal};
 pub use outcome::{End, FaultKind, Outcome, Step};
+
+#[cfg(test)]
+mod tests;

@@ -10,7 +10,7 @@ ghost use Rattle.mode_switch.specs.Run.{bound, full_step};
 ghost use Rattle.mode_switch.specs.Step.{native_step};
 ghost use Rattle.mode_switch.specs.Text.{said};
 ghost use Rattle.std.specs.Option.{option_map};
-ghost use Rattle.std.specs.Prelude.{◌≡◌, ◌+◌, ◌<◌, ◌^◌, ◌↔◌, None, [], length, slice_get, string_bytes, IfOk, IfSome, IsErrOf};
+ghost use Rattle.std.specs.Prelude.{◌≡◌, ◌+◌, ◌<◌, ◌^◌, ◌↔◌, None, [], length, slice_get, string_bytes, IfOk, IfSome, IsErrOf, OnOk};
 
 use crate::addresses::ITEM_START;
 use crate::hardware::Hardware;
@@ -103,8 +103,8 @@ fn entry_of_call(image: &Image, call: &Call) -> Option<u32>
 }
 
 impl Machine {
-    /// The machine before the first step of a call, with all memory that it ever needs. For now
-    /// calls have no arguments, so that none is too long, and there is no junk.
+    /// The machine before the first step of a call, with all memory that it ever needs. For now no
+    /// function with arguments is exported, so that none is too long, and there is no junk.
     pub fn open(
         alloc: Global,
         image: Image,
@@ -114,10 +114,10 @@ impl Machine {
     ) -> Result<Machine, OpenRefusal>
         requires read { AreReadings image.parts.texts image.modules }
         requires limits { AreInRange limits }
-        requires no_args { call.args ≡ [] }
         requires no_junk { junk.items ≡ [] }
         ensures opened { IfOk result (IsOpenedAt (loaded_of image.modules image.parts limits) (exported_number image.modules call.«module» call.function (length call.args))) }
         ensures not_exported { IsErrOf result OpenRefusal.NotExported ↔ (exported_number image.modules call.«module» call.function (length call.args) ≡ None) }
+        ensures no_args { OnOk result (call.args ≡ []) }
         ensures args_fit { IsErrOf result OpenRefusal.ArgsDoNotFit → ⊥ }
     {
         let Some(entry) = entry_of_call(&image, &call) else {

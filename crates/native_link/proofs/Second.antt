@@ -6,13 +6,12 @@ use Rattle.std.proofs.lemmas.List.{take_more}
 use Rattle.std.proofs.lemmas.List.Elements.{All-from_recursion}
 use Rattle.beam_code.specs.declared.module.Module.{Module}
 use Rattle.beam_code.specs.Function.{all_functions}
-use Rattle.plain_text.specs.Reading.{IsReading}
 use Rattle.native_link.specs.declared.parts.Parts.{Parts}
 use Rattle.native_link.specs.declared.refusal.ImageRefusal.{ImageRefusal}
 use Rattle.native_link.specs.declared.refusal.ImageRefusal.TheVariants as refusals
 use Rattle.native_link.specs.Checking.{Linked, linked, has_atoms, is_foreign, natives_checked, atom_count_offset, checking, checked_image}
 use Rattle.native_link.specs.Fitting.{total_length}
-use Rattle.native_link.specs.Image.{AreReadings, SomeUnread, Readable, Answers, Built}
+use Rattle.native_link.specs.Image.{AreReadings, IsModuleOf, SomeUnread, Readable, Answers, Built}
 use Rattle.native_link.specs.Place.{◌>>=◌, Fails, Gives}
 use Rattle.native_link.specs.Reading.{reading}
 use Rattle.native_link.specs.Spelling.{spelling}
@@ -21,18 +20,18 @@ use Rattle.native_link.proofs.Steps.{bind_case, ok_is}
 
 -- ---- the modules of texts
 
-readings_push : (ts : List (List ℕ)) (ms : List Module) (t : List ℕ) (m : Module) → AreReadings ts ms → IsReading t (Some m) → AreReadings (ts ++ t ∷ []) (ms ++ m ∷ [])
+readings_push : (ts : List (List ℕ)) (ms : List Module) (t : List ℕ) (m : Module) → AreReadings ts ms → IsModuleOf t (Some m) → AreReadings (ts ++ t ∷ []) (ms ++ m ∷ [])
 readings_push [] [] t m h r = (r, tt)
 readings_push [] (n ∷ ms) t m h r = absurd h
 readings_push (s ∷ ts) [] t m h r = absurd h
 readings_push (s ∷ ts) (n ∷ ms) t m h r = (h.0, readings_push ts ms t m h.1 r)
 
-pub one_more_reading : (ts : List (List ℕ)) (ms after : List Module) (i : ℕ) (t : List ℕ) (m : Module) → i < length ts → t ≡ get_or ts i t → AreReadings (take i ts) ms → IsReading t (Some m) → after ≡ ms ++ m ∷ [] → AreReadings (take (i + 1) ts) after
+pub one_more_reading : (ts : List (List ℕ)) (ms after : List Module) (i : ℕ) (t : List ℕ) (m : Module) → i < length ts → t ≡ get_or ts i t → AreReadings (take i ts) ms → IsModuleOf t (Some m) → after ≡ ms ++ m ∷ [] → AreReadings (take (i + 1) ts) after
 one_more_reading ts ms after i t m lt e h r push =
     let more : take (i + 1) ts ≡ take i ts ++ t ∷ [] = take_more ts i t lt ∙ ap (λ y. take i ts ++ y ∷ []) (sym e) in
     subst (λ a. AreReadings (take (i + 1) ts) a) (sym push) (subst (λ l. AreReadings l (ms ++ m ∷ [])) (sym more) (readings_push (take i ts) ms t m h r))
 
-pub unread_at : (ts : List (List ℕ)) (i : ℕ) (d : List ℕ) → i < length ts → IsReading (get_or ts i d) None → SomeUnread ts
+pub unread_at : (ts : List (List ℕ)) (i : ℕ) (d : List ℕ) → i < length ts → IsModuleOf (get_or ts i d) None → SomeUnread ts
 unread_at [] i d lt h = absurd (omega arith)
 unread_at (t ∷ ts) zero d lt h = inl h
 unread_at (t ∷ ts) (suc i) d lt h = inr (unread_at ts i d (omega arith) h)

@@ -1,7 +1,7 @@
 -- An image that was read (docs/FORMAT.md): its parts meet the rules, and its modules ask no more of them.
 use Rattle.std.specs.Prelude.{ℕ, ◌≡◌, ◌⊎◌, Bool, true, false, not, ◌||◌, ◌==◌, List, [], ◌∷◌, length, Option, Some, None, Result, Ok, Err}
 use Rattle.beam_code.specs.declared.module.Module.{Module}
-use Rattle.plain_text.specs.Reading.{IsReading}
+use Rattle.plain_text.specs.Reading.{IsPlainText, IsNotPlain}
 use Rattle.native_link.specs.declared.parts.Parts.{Parts}
 use Rattle.native_link.specs.declared.refusal.ImageRefusal.{ImageRefusal}
 use Rattle.native_link.specs.declared.refusal.ImageRefusal.TheVariants.{NotBuilt, Memory}
@@ -14,17 +14,22 @@ pub record IsLinked (l : Linked) : Type 0 where
   pub sized : IsSized l.parts
   pub checked : checking l.parts l.modules ≡ Ok tt
 
+-- the text is plain, and this is its module; or it is not plain
+abbrev pub IsModuleOf : List ℕ → Option Module → Type 0
+IsModuleOf text (Some m) = IsPlainText text m
+IsModuleOf text None = IsNotPlain text
+
 -- the modules are those of the texts, in their order
 abbrev pub AreReadings : List (List ℕ) → List Module → Type 0
 AreReadings [] [] = Unit {0}
 AreReadings [] (m ∷ ms) = ⊥
 AreReadings (t ∷ ts) [] = ⊥
-AreReadings (t ∷ ts) (m ∷ ms) = IsReading t (Some m) × AreReadings ts ms
+AreReadings (t ∷ ts) (m ∷ ms) = IsModuleOf t (Some m) × AreReadings ts ms
 
 -- some text is that of no module
 abbrev pub SomeUnread : List (List ℕ) → Type 0
 SomeUnread [] = ⊥
-SomeUnread (t ∷ ts) = IsReading t None ⊎ SomeUnread ts
+SomeUnread (t ∷ ts) = IsModuleOf t None ⊎ SomeUnread ts
 
 abbrev pub TextsRead : List (List ℕ) → Option (List Module) → Type 0
 TextsRead texts None = SomeUnread texts

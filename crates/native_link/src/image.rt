@@ -3,7 +3,7 @@
 ghost use Rattle.native_link.specs.Checking.{checked_image};
 ghost use Rattle.native_link.specs.Fitting.{IsFitting, IsSized, total_length, NativeFits, after_native, first_turn, DescriptorFits, after_descriptor};
 ghost use Rattle.native_link.specs.Follow.{Follow};
-ghost use Rattle.native_link.specs.Image.{TextsRead, Built, Answers, has_more};
+ghost use Rattle.native_link.specs.Image.{IsModuleOf, TextsRead, Built, Answers, has_more};
 ghost use Rattle.native_link.specs.Lookup.{native_of, native_entry_of, descriptor_of, Splits};
 ghost use Rattle.native_link.specs.Place.{Gives};
 ghost use Rattle.native_link.specs.Spelling.{spelling};
@@ -14,6 +14,7 @@ ghost use Rattle.std.specs.Prelude.{◌≡◌, ◌≤◌, All, IfOk, length};
 use crate::checking::check_modules;
 use crate::reading::read_parts;
 use crate::{CODE_START, Descriptor, ImageRefusal, Native, Parts};
+use asm_text::TextRefusal;
 use beam_code::Module;
 use plain_text::read_plain;
 use sqlite_items::Items;
@@ -118,6 +119,18 @@ fn descriptor_with(descriptors: &[Descriptor], ret: u32) -> Option<&Descriptor>
     }
 }
 
+/// The module of a text, where it is plain.
+fn module_of(alloc: Global, text: &[u8]) -> Result<Option<Module>, AllocError>
+    requires { length text.now ≤ MOST_TEXT_BYTES }
+    ensures { IfOk result (IsModuleOf text.now) }
+{
+    match read_plain(alloc, text) {
+        Ok(module) => Ok(module),
+        Err(TextRefusal::Memory(e)) => Err(e),
+        Err(_) => Ok(None),
+    }
+}
+
 /// The modules of these texts, where each is plain.
 fn modules_of(alloc: Global, texts: &[Items<u8>]) -> Result<Option<Items<Module>>, AllocError>
     requires { All (λ t. length t ≤ MOST_TEXT_BYTES) texts.now }
@@ -125,7 +138,7 @@ fn modules_of(alloc: Global, texts: &[Items<u8>]) -> Result<Option<Items<Module>
 {
     let mut modules = Items::new(alloc);
     for text in texts {
-        match read_plain(alloc, text.as_slice())? {
+        match module_of(alloc, text.as_slice())? {
             None => return Ok(None),
             Some(module) => modules.push(module)?,
         }

@@ -1,3 +1,4 @@
-pub mod Bytes
-pub mod Scan
-pub mod Joined
+pub mod Found
+pub mod OneOrder
+pub mod Atoms
+pub mod Answering

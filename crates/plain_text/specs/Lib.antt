@@ -1,5 +1,5 @@
-pub mod Text
+pub mod Forms
 pub mod Plain
 pub mod Module
 pub mod Reading
-pub mod Scan
+pub mod Guess

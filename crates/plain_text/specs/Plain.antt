@@ -1,19 +1,16 @@
--- Which modules have a plain text (Erlang reference manual, Atom: an atom that needs no quotes).
-use Rattle.std.specs.Prelude.{ℕ, Bool, true, ◌&&◌, not, nat_le, ◌==◌, List, [], ◌∷◌, ◌++◌, length, map}
+-- Which modules are plain (Erlang reference manual, Data Types, Atom).
+use Rattle.std.specs.Prelude.{ℕ, Bool, true, ◌&&◌, not, nat_lt, ◌==◌, List, [], ◌∷◌, ◌++◌, map}
 use Rattle.std.specs.List.{list_all, list_any}
+use Rattle.std.specs.Str.{is_utf8}
 use Rattle.std.specs.Cmp.Lexicographic.{pointwise}
-use Rattle.term_tree.specs.Text.{is_bare}
+use Rattle.term_tree.specs.Name.{characters_in}
 use Rattle.term_tree.specs.Small.{is_small}
 use Rattle.plain_text.specs.declared.plain.Constant.{Constant}
 use Rattle.plain_text.specs.declared.plain.Plain.{Plain}
 
--- the most bytes of a name
-abbrev pub most_bytes : ℕ
-most_bytes = 255
-
--- a name that is written without quotes
-abbrev pub is_plain_name : List ℕ → Bool
-is_plain_name bytes = is_bare bytes && nat_le (length bytes) most_bytes
+-- whether bytes are the text of an atom: UTF-8 of at most 255 characters
+abbrev pub is_name : List ℕ → Bool
+is_name bytes = is_utf8 bytes && not (nat_lt 255 (characters_in bytes))
 
 -- each of these names is neither one of `earlier` nor one before it
 abbrev pub are_new : List (List ℕ) → List (List ℕ) → Bool
@@ -24,7 +21,7 @@ abbrev pub name_of : Constant → List ℕ
 name_of c = c.name
 
 abbrev pub is_fine : Constant → Bool
-is_fine c = is_plain_name c.name && is_small c.value
+is_fine c = is_name c.name && is_small c.value
 
 abbrev pub is_plain : Plain → Bool
-is_plain p = is_plain_name p.name && list_all is_fine p.constants && are_new [] (map name_of p.constants)
+is_plain p = is_name p.name && list_all is_fine p.constants && are_new [] (map name_of p.constants)

@@ -1,8 +1,9 @@
-ghost use Rattle.std.specs.Prelude.{◌≡◌, ◌<◌, ◌≤◌, IfOk, map, length};
-ghost use Rattle.plain_text.specs.Module.{items_of, functions_of, export_of, module_of};
+ghost use Rattle.std.specs.Prelude.{◌≡◌, ◌+◌, ◌*◌, ◌<◌, ◌≤◌, IfOk, map, length};
+ghost use Rattle.plain_text.specs.Module.{forms_before, items_of, functions_of, export_of, module_of};
 
 use crate::read::MOST_BYTES;
 use crate::{Constant, Plain};
+use asm_text::Form;
 use beam_code::{Function, Instr, Item, Module, Operand, Place};
 use sqlite_items::Items;
 use std::alloc::{AllocError, Global};
@@ -14,35 +15,37 @@ const ENTRY: u32 = 2;
 /// The items of the function that `before` functions come before.
 fn items(
     alloc: Global,
-    module_name: &Name,
+    forms: &[Form],
+    owner: &Name,
     before: u32,
     constant: &Constant,
 ) -> Result<Items<Item>, AllocError>
-    requires { before ≤ MOST_BYTES }
-    ensures { IfOk result (λ all. all ≡ items_of module_name.now before constant.now) }
+    requires few { before ≤ MOST_BYTES }
+    requires there { forms_before before + 5 < length forms.now }
+    ensures { IfOk result (λ all. all ≡ items_of forms.now owner.now before constant.now) }
 {
-    let line = 5 + 6 * before;
-    let info = Instr::FuncInfo(module_name.copy(alloc)?, constant.name.copy(alloc)?, 0);
+    let first = 4 + 6 * before as usize;
+    let info = Instr::FuncInfo(owner.copy(alloc)?, constant.name.copy(alloc)?, 0);
     let value = Instr::Move(Operand::Int(constant.value), Place::X(0));
     let mut items = Items::new(alloc);
     items.push(Item {
-        line: line + 1,
+        line: forms[first + 1].line,
         instr: Instr::Label(2 * before + 1),
     })?;
     items.push(Item {
-        line: line + 2,
+        line: forms[first + 2].line,
         instr: info,
     })?;
     items.push(Item {
-        line: line + 3,
+        line: forms[first + 3].line,
         instr: Instr::Label(2 * before + 2),
     })?;
     items.push(Item {
-        line: line + 4,
+        line: forms[first + 4].line,
         instr: value,
     })?;
     items.push(Item {
-        line: line + 5,
+        line: forms[first + 5].line,
         instr: Instr::Return,
     })?;
     Ok(items)
@@ -50,15 +53,17 @@ fn items(
 
 fn functions(
     alloc: Global,
-    module_name: &Name,
+    forms: &[Form],
+    owner: &Name,
     constants: &[Constant],
 ) -> Result<Items<Function>, AllocError>
-    requires { length constants.now ≤ MOST_BYTES }
-    ensures { IfOk result (λ all. all ≡ functions_of module_name.now 0 constants.now) }
+    requires few { length constants.now ≤ MOST_BYTES }
+    requires there { forms_before (length constants.now) ≤ length forms.now }
+    ensures { IfOk result (λ all. all ≡ functions_of forms.now owner.now 0 constants.now) }
 {
     let mut functions = Items::new(alloc);
     for (i, constant) in constants.iter().enumerate() {
-        let items = items(alloc, module_name, i as u32, constant)?;
+        let items = items(alloc, forms, owner, i as u32, constant)?;
         let name = constant.name.copy(alloc)?;
         functions.push(Function {
             name,
@@ -80,14 +85,20 @@ fn exports(alloc: Global, constants: &[Constant]) -> Result<Items<(Name, u8)>, A
     Ok(exports)
 }
 
-/// The module with this text.
-pub fn module(alloc: Global, text: &[u8], plain: Plain) -> Result<Module, AllocError>
-    requires { length plain.constants ≤ MOST_BYTES }
-    ensures { IfOk result (λ m. m ≡ module_of text.now plain) }
+/// The module with this text and these forms.
+pub fn module(
+    alloc: Global,
+    text: &[u8],
+    forms: &[Form],
+    plain: Plain,
+) -> Result<Module, AllocError>
+    requires few { length plain.constants ≤ MOST_BYTES }
+    requires there { forms_before (length plain.constants) ≤ length forms.now }
+    ensures { IfOk result (λ m. m ≡ module_of text.now forms.now plain) }
 {
     let Plain { name, constants } = plain;
     let exports = exports(alloc, constants.as_slice())?;
-    let functions = functions(alloc, &name, constants.as_slice())?;
+    let functions = functions(alloc, forms, &name, constants.as_slice())?;
     let text = Items::from_slice(alloc, text)?;
     Ok(Module {
         name,

@@ -1,21 +1,14 @@
-//! The one module that a text can be that of, taken from it without a look at the rest.
-ghost use Rattle.std.specs.Prelude.{◌≡◌, ◌<◌, ◌≤◌, ℕ, ℤ, List, Some, IsTrue, IfOk, length};
-ghost use Rattle.std.specs.Option.{IfSome};
-ghost use Rattle.std.specs.List.{list_all};
-ghost use Rattle.std.specs.Fmt.{signed_decimal};
+//! The one module that forms can be those of, taken from them without a look at the rest.
+ghost use Rattle.std.specs.Option.{option_copied};
+ghost use Rattle.std.specs.Prelude.{◌≡◌, IfOk};
 ghost use Rattle.term_tree.specs.Small.{is_small};
-ghost use Rattle.plain_text.specs.declared.plain.Constant.{Constant};
-ghost use Rattle.plain_text.specs.declared.plain.Plain.{Plain};
-ghost use Rattle.plain_text.specs.Plain.{is_plain_name, is_fine, is_plain};
-ghost use Rattle.plain_text.specs.Text.{functions_text, text_of};
-ghost use Rattle.plain_text.specs.Scan.{name_in, number_in, after_function};
+ghost use Rattle.plain_text.specs.Guess as guess;
 
-use crate::cut::{cut, past};
-use crate::names::bare_name;
-use crate::read::MOST_BYTES;
 use crate::{Constant, Plain};
+use asm_text::Form;
 use sqlite_items::Items;
 use std::alloc::{AllocError, Global};
+use term_tree::{Name, Term};
 
 /// One more than the greatest small integer.
 const SMALL_LIMIT: i32 = 134_217_728;
@@ -26,90 +19,100 @@ fn is_small(value: i32) -> bool
     value >= -SMALL_LIMIT && value < SMALL_LIMIT
 }
 
-/// The small integer that is written so, if there is one.
-fn small_number(bytes: &[u8]) -> Option<i32>
-    ensures small { IfSome result (λ value. IsTrue (is_small value)) }
-    ensures complete { (value : ℤ) → IsTrue (is_small value) → bytes.now ≡ signed_decimal value → result ≡ Some value }
+/// An element of a tuple.
+fn element(place: usize, term: &Term) -> Option<&Term>
+    ensures { option_copied result ≡ guess.element place term.now }
 {
-    let Ok(text) = str::from_utf8(bytes) else {
-        return None;
-    };
-    let Ok(value) = text.parse::<i32>() else {
-        return None;
-    };
-    if is_small(value) { Some(value) } else { None }
+    match term {
+        Term::Tuple(parts) => parts.get(place),
+        _ => None,
+    }
 }
 
-/// The function with this name and value, if there is one.
-fn constant_of(alloc: Global, name: &[u8], number: &[u8]) -> Result<Option<Constant>, AllocError>
-    ensures fine { IfOk result (λ o. IfSome o (λ c. IsTrue (is_fine c))) }
-    ensures complete { (c : Constant) → IsTrue (is_fine c) → name.now ≡ c.name → number.now ≡ signed_decimal c.value → IfOk result (λ o. o ≡ Some c) }
+fn atom_of(term: &Term) -> Option<&Name>
+    ensures { option_copied result ≡ guess.atom_of term.now }
 {
-    let Some(value) = small_number(number) else {
+    match term {
+        Term::Atom(name) => {
+            let _text = name.as_str();
+            Some(name)
+        }
+        _ => None,
+    }
+}
+
+fn integer_of(term: &Term) -> Option<i32>
+    ensures { result ≡ guess.integer_of term.now }
+{
+    match term {
+        Term::Int(value) => {
+            let value = *value;
+            if is_small(value) { Some(value) } else { None }
+        }
+        _ => None,
+    }
+}
+
+/// The name that stands behind the tag of a form.
+fn named(term: &Term) -> Option<&Name>
+    ensures { option_copied result ≡ guess.named term.now }
+{
+    atom_of(element(1, term)?)
+}
+
+/// The value that a form moves.
+fn valued(term: &Term) -> Option<i32>
+    ensures { result ≡ guess.valued term.now }
+{
+    let operand = element(1, term)?;
+    integer_of(element(1, operand)?)
+}
+
+/// The function with this header and this move, if there is one.
+fn constant_of(alloc: Global, header: &Term, value: &Term) -> Result<Option<Constant>, AllocError>
+    ensures { IfOk result (λ c. c ≡ guess.constant_with (guess.named header.now) (guess.valued value.now)) }
+{
+    let Some(name) = named(header) else {
         return Ok(None);
     };
-    let Some(name) = bare_name(alloc, name)? else {
+    let Some(value) = valued(value) else {
         return Ok(None);
     };
+    let name = name.copy(alloc)?;
     Ok(Some(Constant { name, value }))
 }
 
-/// The fields of a function's lines, and what stands after them.
-#[derive(Drop)]
-struct Fields<'a> {
-    name: &'a [u8],
-    number: &'a [u8],
-    rest: &'a [u8],
-}
-
-fn fields_of(bytes: &[u8]) -> Fields<'_>
-    ensures name { result.name.now ≡ name_in bytes.now }
-    ensures number { result.number.now ≡ number_in bytes.now }
-    ensures rest { result.rest.now ≡ after_function bytes.now }
-{
-    let (name, rest) = cut(past(bytes, b" "), b',');
-    let (number, rest) = cut(past(rest, b"\n\n\n\n,,"), b'}');
-    Fields {
-        name,
-        number,
-        rest: past(rest, b"\n\n"),
-    }
-}
-
-/// The functions that stand in these bytes.
-fn guess_constants(alloc: Global, bytes: &[u8]) -> Result<Option<Items<Constant>>, AllocError>
-    requires { length bytes.now ≤ MOST_BYTES }
-    ensures few { IfOk result (λ o. IfSome o (λ cs. length cs ≤ length bytes.now)) }
-    ensures fine { IfOk result (λ o. IfSome o (λ cs. IsTrue (list_all is_fine cs))) }
-    ensures complete { (m : List ℕ) (cs : List Constant) → IsTrue (is_plain_name m) → IsTrue (list_all is_fine cs) → functions_text m 0 cs ≡ bytes.now → IfOk result (λ o. o ≡ Some cs) }
+/// The functions of forms, as far as there are any.
+#[tactic(auto, unfolding(crate::specs::Guess::constants_of))]
+fn constants_of(alloc: Global, forms: &[Form]) -> Result<Items<Constant>, AllocError>
+    ensures { IfOk result (λ constants. constants ≡ guess.constants_of forms.now) }
 {
     let mut constants = Items::new(alloc);
-    let mut rest = bytes;
-    while !rest.is_empty() {
-        let fields = fields_of(rest);
-        let Some(constant) = constant_of(alloc, fields.name, fields.number)? else {
-            return Ok(None);
+    let mut rest = forms;
+    while let [header, _, _, _, value, _, ..] = rest {
+        let Some(constant) = constant_of(alloc, &header.term, &value.term)? else {
+            return Ok(constants);
         };
         constants.push(constant)?;
-        rest = fields.rest;
+        rest = &rest[6..];
     }
-    Ok(Some(constants))
+    Ok(constants)
 }
 
-/// A module of which this may be the text: the only plain one, where there is one.
-pub fn guess(alloc: Global, text: &[u8]) -> Result<Option<Plain>, AllocError>
-    requires { length text.now ≤ MOST_BYTES }
-    ensures few { IfOk result (λ o. IfSome o (λ p. length p.constants ≤ length text.now)) }
-    ensures name { IfOk result (λ o. IfSome o (λ p. IsTrue (is_plain_name p.name))) }
-    ensures fine { IfOk result (λ o. IfSome o (λ p. IsTrue (list_all is_fine p.constants))) }
-    ensures complete { (p : Plain) → IsTrue (is_plain p) → text_of p ≡ text.now → IfOk result (λ o. o ≡ Some p) }
+/// A module of which these may be the forms: the only plain one, where there is one.
+#[tactic(auto, unfolding(crate::specs::Guess::guess_of))]
+pub fn guess(alloc: Global, forms: &[Form]) -> Result<Option<Plain>, AllocError>
+    ensures { IfOk result (λ plain. plain ≡ guess.guess_of forms.now) }
 {
-    let (name, rest) = cut(past(text, b" "), b'}');
-    let Some(name) = bare_name(alloc, name)? else {
-        return Ok(None);
-    };
-    let Some(constants) = guess_constants(alloc, past(rest, b"\n\n\n\n"))? else {
-        return Ok(None);
-    };
-    Ok(Some(Plain { name, constants }))
+    match forms {
+        [head, _, _, _, rest @ ..] => {
+            let Some(name) = named(&head.term) else {
+                return Ok(None);
+            };
+            let name = name.copy(alloc)?;
+            let constants = constants_of(alloc, rest)?;
+            Ok(Some(Plain { name, constants }))
+        }
+        _ => Ok(None),
+    }
 }

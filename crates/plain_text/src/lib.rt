@@ -1,13 +1,13 @@
-//! Plain texts: modules whose functions each return one small integer, in one fixed spelling.
+//! Plain texts: modules whose functions each return one small integer.
 #![tactic(auto)]
 
 mod build;
-mod cut;
 mod guess;
 mod names;
 mod plain;
 mod read;
-mod spell;
+mod same;
+mod terms;
 
 pub use plain::{Constant, Plain};
 pub use read::{MOST_BYTES, read_plain};

@@ -1,10 +1,9 @@
--- There are fewer functions than items.
+-- There are few functions.
 use Rattle.std.proofs.Common.{arith}
-use Rattle.constant_code.proofs.CompiledLaw.{few}
 use Rattle.hipe_core.proofs.building.parts.Goals as goal
 
 pub overflow_cast-functions : goal.overflow_cast-functions
-overflow_cast-functions c = let most = few c.args.source.now c.requires in rw c.as_slice-functions.ensures (omega arith)
+overflow_cast-functions c = let most = c.requires.few in rw c.as_slice-functions.ensures (omega arith)
 
 pub natives-requires : goal.natives-requires
-natives-requires c = let most = few c.args.source.now c.requires in rw c.as_slice-functions.ensures (omega arith)
+natives-requires c = let most = c.requires.few in rw c.as_slice-functions.ensures (omega arith)

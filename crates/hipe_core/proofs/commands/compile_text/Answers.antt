@@ -1,6 +1,4 @@
 -- The module of a plain text is compiled, and its image is one of the text.
-use Rattle.std.proofs.Common.{sym, subst}
-use Rattle.constant_code.specs.Compiled.{IsCompilable}
 use Rattle.hipe_core.proofs.commands.compile_text.Goals as goal
 use Rattle.hipe_core.proofs.PlainLaw.{plain_compiles}
 use Rattle.hipe_core.proofs.CommandLaw.{writes_text}
@@ -9,7 +7,7 @@ use Rattle.hipe_core.specs.Saying.{seen}
 pub write_image-requires : goal.write_image-requires
 write_image-requires g c =
     let read = rw c.in-Ok-Some.field-0-is at c.in-Ok-Some.ensures in
-    subst IsCompilable (sym read.1.2) (plain_compiles c.args.text.now read.0 read.1.0 read.1.1 c.requires)
+    plain_compiles c.args.text.now c.in-Ok-Some.source read c.requires
 
 pub returns-in-Ok-Some : goal.returns-in-Ok-Some
 returns-in-Ok-Some g c =

@@ -1,11 +1,13 @@
 -- The run of the image that was read.
 use Rattle.hipe_core.proofs.CommandLaw.{runs_bytes}
 use Rattle.hipe_core.proofs.running.run_bytes.Goals as goal
+use Rattle.hipe_core.specs.Command.{called}
 use Rattle.hipe_core.specs.Saying.{seen}
 
 pub returns-in-Ok : goal.returns-in-Ok
 returns-in-Ok g c =
-    runs_bytes c.run_call.result c.args.bytes.now c.args.owner c.args.function c.in-Ok.image
+    let call = c.args.call in
+    runs_bytes c.run_call.result c.args.bytes.now (called call.«module» call.function call.args c.args.limits) c.in-Ok.image
     (seen (g.O.Sink.written c.args.out.now) (g.O.Sink.room c.args.out.now) (g.O.Sink.faults c.args.out.now))
     (seen (g.O.Sink.written c.run_call.new.out) (g.O.Sink.room c.run_call.new.out) (g.O.Sink.faults c.run_call.new.out))
     c.in-Ok.ensures.answer c.run_call.ensures

@@ -4,4 +4,4 @@ use Rattle.plain_text.proofs.build.functions.Given as goal
 
 abbrev pub invariant-loop-i : goal.invariant-loop-i
 invariant-loop-i l =
-    l.functions ++ functions_of l.module_name l.i (drop l.i l.constants) ≡ functions_of l.module_name 0 l.constants
+    l.functions ++ functions_of l.forms l.owner l.i (drop l.i l.constants) ≡ functions_of l.forms l.owner 0 l.constants

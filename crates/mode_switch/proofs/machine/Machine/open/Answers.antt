@@ -1,14 +1,12 @@
 -- The modules were read from the image's texts, the entry is that of the exported function, and the state is the first one.
-use Rattle.std.proofs.Common.{◌≡◌, None, ◌∙◌, ◌≤◌, ap, arith, length, List, ℕ, subst}
+use Rattle.std.proofs.Common.{◌≡◌, None, ◌∙◌, ap, arith, length, List, ℕ, subst}
 use Rattle.beam_code.specs.Function.{exported_number, items_of}
-use Rattle.mode_switch.proofs.Loadable.{readings_are_loadable}
+use Rattle.mode_switch.proofs.Loadable.{readings_are_loadable, call_no_args}
 use Rattle.mode_switch.proofs.Starts.{opened_by}
 use Rattle.mode_switch.specs.Machine.{Progress}
-use Rattle.mode_switch.specs.Start.{IsLoadable, loaded_of}
-use Rattle.mode_switch.specs.State.{Loaded, MixedState}
-use Rattle.native_link.specs.Fitting.{IsFitting, total_length}
-use Rattle.native_link.specs.declared.limits.TheConstants.{MOST_TEXT_BYTES}
-use Rattle.native_link.specs.declared.parts.Parts.{Parts}
+use Rattle.mode_switch.specs.Start.{IsLoadable, entry_in, loaded_of}
+use Rattle.mode_switch.specs.State.{MixedState}
+use Rattle.native_link.specs.Fitting.{IsFitting}
 use Rattle.mode_switch.proofs.machine.Machine.open.Goals as goal
 
 pub entry_of_call-requires-clause-loadable : goal.entry_of_call-requires-clause-loadable
@@ -42,3 +40,7 @@ returns-in-Ok-clause-opened c =
     let P : List ℕ → MixedState → Progress = λ junk s. record { loaded = record g { junk = junk }; state = s; outcome = None; steps = 0 } in
     opened_by g (exported_number c.args.image.modules c.args.call.«module» c.args.call.function (length c.args.call.args)) c.in-Some.entry _ c.in-Some.ensures.entry
     (ap (λ junk. P junk c.in-Ok.hardware) c.requires.no_junk ∙ ap (P _) c.in-Ok.ensures)
+
+pub returns-in-Ok-clause-no_args : goal.returns-in-Ok-clause-no_args
+returns-in-Ok-clause-no_args c =
+    call_no_args c.args.image.parts.texts c.args.image.modules c.args.call.«module» c.args.call.function c.args.call.args (entry_in c.args.image.modules c.args.image.parts) c.in-Some.entry c.requires.read c.in-Some.ensures.entry
