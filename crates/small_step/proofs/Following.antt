@@ -3,13 +3,6 @@ use Rattle.std.proofs.Common.{◌≡◌, ℕ, zero, suc, ◌+◌, ◌≤◌, ◌
 use Rattle.small_step.specs.Stage.{Stage, Still, Done, and_then, run}
 use Rattle.small_step.proofs.Runs.{run-one, done_stays, still_goes_on, done_once}
 
--- no run from here has such an outcome
-abbrev pub Avoids : {S O : Type 0} → (S → Stage S O) → (O → Type 0) → S → Type 0
-Avoids {S} {O} step IsBad s = (n : ℕ) (o : O) → run step n s ≡ Done o → IsBad o → ⊥
-
-pub avoids_on : {S O : Type 0} (step : S → Stage S O) (IsBad : O → Type 0) (s t : S) → step s ≡ Still t → Avoids step IsBad s → Avoids step IsBad t
-avoids_on step IsBad s t e avoids n o done bad = avoids (1 + n) o (still_goes_on step 1 n s t (run-one step s ∙ e) ∙ done) bad
-
 -- R b s t: the states belong together, and at most b steps of the target are left; A: which outcomes agree;
 -- Good: what the source alone keeps, as a fact that the stretches may use
 module _ {S T O P : Type 0} (source : S → Stage S O) (target : T → Stage T P) (R : ℕ → S → T → Type 0) (A : O → P → Type 0) (Good : S → Type 0) (good_on : (s s' : S) → source s ≡ Still s' → Good s → Good s') where

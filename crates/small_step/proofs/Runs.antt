@@ -25,9 +25,6 @@ module _ {S O : Type 0} (step : S → Stage S O) where
   pub run-one : (s : S) → run step 1 s ≡ step s
   run-one s = and_then-Still (step s)
 
-  pub run-suc : (n : ℕ) (s : S) → run step (n + 1) s ≡ and_then (run step n s) step
-  run-suc n s = run-add n 1 s ∙ and_then-same (run step n s) _ _ run-one
-
   -- an end lasts
   pub done_stays : (m n : ℕ) (s : S) (o : O) → run step m s ≡ Done o → m ≤ n → run step n s ≡ Done o
   done_stays m n s o done le =
@@ -47,12 +44,3 @@ module _ {S O : Type 0} (step : S → Stage S O) where
   -- one step, and then n more
   pub steps_on : (n : ℕ) (s t : S) → step s ≡ Still t → run step (suc n) s ≡ run step n t
   steps_on n s t e = ap (λ x. and_then x (run step n)) e
-
--- for loops: one step behind a run that goes on
-pub still_still : {S O : Type 0} (step : S → Stage S O) (n : ℕ) (s t u : S) → run step n s ≡ Still t → step t ≡ Still u → run step (n + 1) s ≡ Still u
-still_still step n s t u still next = run-suc step n s ∙ ap (λ x. and_then x step) still ∙ next
-
--- for loops: a step that ends the run, within a bound
-pub still_done : {S O : Type 0} (step : S → Stage S O) (n b : ℕ) (s t : S) (o : O) → run step n s ≡ Still t → step t ≡ Done o → n < b → run step b s ≡ Done o
-still_done step n b s t o still next lt =
-    done_stays step (n + 1) b s o (run-suc step n s ∙ ap (λ x. and_then x step) still ∙ next) (omega arith)

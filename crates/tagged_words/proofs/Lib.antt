@@ -1,3 +1,5 @@
 -- proofs/Lib.antt
 pub mod WordLaws
 pub mod RegionLaws
+pub mod Begins
+pub mod Tables

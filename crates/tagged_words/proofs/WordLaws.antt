@@ -1,7 +1,8 @@
 -- What the table of words says of the words that are made by it.
 use Rattle.std.proofs.Common.{◌≡◌, ℕ, ℤ, pos, negsuc, ◌%◌, ◌^◌, ◌<◌, refl, arith}
 use Rattle.tagged_words.specs.declared.kind.Class.TheVariants.{Small, Atom, Nil, Other}
-use Rattle.tagged_words.specs.Word.{IsSmall, small_of, bits_of, small_word, atom_word, nil_word, header_word, class_of}
+use Rattle.tagged_words.specs.Word.{small_of, bits_of, small_word, atom_word, nil_word, header_word, class_of}
+use Rattle.term_tree.specs.Small.{IsSmall}
 
 pub small_of-bits_of : (i : ℤ) → IsSmall i → small_of (bits_of i) ≡ i
 small_of-bits_of (pos n) low = grind arith

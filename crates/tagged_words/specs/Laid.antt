@@ -1,18 +1,15 @@
 -- How terms are laid out as words (docs/MACHINE.md, Words): elements first, left to right, then a list's tail, then its cells from the last to the first.
-use Rattle.std.specs.Prelude.{ℕ, ◌+◌, ◌-◌, ◌*◌, ◌==◌, Bool, List, [], ◌∷◌, ◌++◌, if◌then◌else◌}
-use Rattle.std.specs.Cmp.Lexicographic.{pointwise}
+use Rattle.std.specs.Prelude.{ℕ, ◌+◌, ◌-◌, ◌*◌, List, [], ◌∷◌, ◌++◌, if◌then◌else◌}
 use Rattle.std.specs.List.{list_any}
+use Rattle.term_tree.specs.Name.{same_name}
 use Rattle.term_tree.specs.Size.{size_of, words_of}
 use Rattle.term_tree.specs.Tree as t
 use Rattle.tagged_words.specs.Word.{small_word, atom_word, nil_word, header_word}
 
-abbrev pub same_text : List ℕ → List ℕ → Bool
-same_text a b = pointwise ◌==◌ a b
-
 -- the number of an atom that is there, counted from a number on
 abbrev pub number_from : ℕ → List (List ℕ) → List ℕ → ℕ
 number_from at [] a = 0
-number_from at (n ∷ ns) a = if same_text a n then at else number_from (at + 1) ns a
+number_from at (n ∷ ns) a = if same_name a n then at else number_from (at + 1) ns a
 
 abbrev pub atom_number : List (List ℕ) → List ℕ → ℕ
 atom_number names a = number_from 0 names a
@@ -56,9 +53,13 @@ words_in_turn names at (v ∷ vs) = word_for names (at + 4 * words_of v) v ∷ w
 
 -- an atom table with an atom behind the others, unless it is there
 abbrev pub with_atom : List (List ℕ) → List ℕ → List (List ℕ)
-with_atom names a = if list_any (same_text a) names then names else names ++ a ∷ []
+with_atom names a = if list_any (same_name a) names then names else names ++ a ∷ []
 
--- and with all atoms of a term, from left to right
+-- with these names, and with all atoms of a term, from left to right
+abbrev pub with_names : List (List ℕ) → List (List ℕ) → List (List ℕ)
+with_names names [] = names
+with_names names (a ∷ more) = with_names (with_atom names a) more
+
 abbrev mutual
   pub with_atoms : List (List ℕ) → t.Tree → List (List ℕ)
   with_atoms names (t.Int i) = names

@@ -1,6 +1,6 @@
--- specs/Lib.antt
 pub mod Region
 pub mod Word
 pub mod Store
 pub mod Laid
+pub mod Follow
 pub mod Atoms

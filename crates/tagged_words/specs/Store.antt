@@ -1,18 +1,11 @@
 -- Words that stand for terms, in a store of literals and of the used heap (docs/MACHINE.md, Words).
-use Rattle.std.specs.Prelude.{ℕ, ◌≡◌, ◌+◌, ◌*◌, ◌-◌, ◌/◌, ◌%◌, ◌<◌, ◌≤◌, List, [], ◌∷◌, Option, Some, None, nat_lt, if◌then◌else◌, slice_get, length}
+use Rattle.std.specs.Prelude.{ℕ, ◌≡◌, ◌+◌, ◌*◌, ◌<◌, ◌≤◌, List, Option, Some, nat_lt, if◌then◌else◌, slice_get}
 use Rattle.term_tree.specs.Size.{size_of}
 use Rattle.term_tree.specs.Tree as t
-use Rattle.tagged_words.specs.declared.kind.Class.{Class}
 use Rattle.tagged_words.specs.declared.kind.Class.TheVariants.{Small, Atom, Nil, Cons, Boxed}
+use Rattle.tagged_words.specs.declared.addresses.TheConstants.{LITERAL_START, HEAP_START}
 use Rattle.tagged_words.specs.Region.{Region, word_at as region_word}
 use Rattle.tagged_words.specs.Word.{class_of, header_word}
-
--- where the literal words and the heap begin; no literal reaches the heap
-abbrev pub literal_start : ℕ
-literal_start = 0x08000000
-
-abbrev pub heap_start : ℕ
-heap_start = 0x10000000
 
 -- the literal words, and the heap words below the heap top
 pub record Store : Type 0 where
@@ -20,18 +13,18 @@ pub record Store : Type 0 where
   pub heap : List ℕ
 
 abbrev pub literal_region : Store → Region
-literal_region s = record { start = literal_start; words = s.literals }
+literal_region s = record { start = LITERAL_START; words = s.literals }
 
 abbrev pub heap_region : Store → Region
-heap_region s = record { start = heap_start; words = s.heap }
+heap_region s = record { start = HEAP_START; words = s.heap }
 
 -- the word at an address
 abbrev pub word_of : Store → ℕ → Option ℕ
-word_of s at = if nat_lt at heap_start then region_word (literal_region s) at else region_word (heap_region s) at
+word_of s at = if nat_lt at HEAP_START then region_word (literal_region s) at else region_word (heap_region s) at
 
 -- a cell of so many words does not begin in one region and end in the other
 abbrev pub IsInOne : ℕ → ℕ → Type 0
-IsInOne at words = at < heap_start → at + 4 * words ≤ heap_start
+IsInOne at words = at < HEAP_START → at + 4 * words ≤ HEAP_START
 
 -- the tree of a word: names are the atoms by number; a pointer leads below the limit, which inside a cell is the cell's
 -- own address, so that no word has a cyclic tree

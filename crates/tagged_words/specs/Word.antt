@@ -1,24 +1,17 @@
 -- The words of terms: what the low bits of a word of 32 bits say. It follows docs/MACHINE.md,
 -- "Words". A word is a number below 2 ^ 32; its low n bits are its remainder by 2 ^ n.
-use Rattle.std.specs.Prelude.{ℕ, ℤ, pos, negsuc, ◌+◌, ◌-◌, ◌*◌, ◌/◌, ◌%◌, ◌<◌, if◌then◌else◌, nat_eq, nat_lt}
+use Rattle.std.specs.Prelude.{ℕ, ℤ, pos, negsuc, ◌+◌, ◌-◌, ◌*◌, ◌/◌, ◌%◌, if◌then◌else◌, nat_eq, nat_lt}
+use Rattle.term_tree.specs.Small.{small_limit}
 use Rattle.tagged_words.specs.declared.kind.Class.{Class}
 use Rattle.tagged_words.specs.declared.kind.Class.TheVariants.{Small, Atom, Nil, Cons, Boxed, Other}
 
--- how many numbers fit 28 bits without a sign, and how many of these are not negative
+-- how many numbers fit 28 bits without a sign; half of these are not negative
 abbrev pub small_end : ℕ
 small_end = 268435456
 
-abbrev pub small_half : ℕ
-small_half = 134217728
-
--- the integer fits 28 bits, in two's complement
-abbrev pub IsSmall : ℤ → Type 0
-IsSmall (pos n) = n < small_half
-IsSmall (negsuc n) = n < small_half
-
 -- the integer of 28 bits
 abbrev pub small_of : ℕ → ℤ
-small_of bits = if nat_lt bits small_half then pos bits else negsuc (small_end - 1 - bits)
+small_of bits = if nat_lt bits small_limit then pos bits else negsuc (small_end - 1 - bits)
 
 -- the 28 bits of an integer
 abbrev pub bits_of : ℤ → ℕ

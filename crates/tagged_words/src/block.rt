@@ -38,7 +38,7 @@ impl WordBlock {
         Ok(WordBlock { low, words })
     }
 
-    /// The word at `addr`; none exactly where `addr` is not a multiple of 4 or not in the region.
+    /// The word at `addr`, or none for an address that is no multiple of 4 or outside of the block.
     pub fn get(&self, addr: u32) -> Option<u32>
         ensures { result ≡ word_at self.now addr }
     {

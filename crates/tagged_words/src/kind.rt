@@ -2,7 +2,7 @@
 
 /// What the low bits of a word say that it is. An address is a multiple of 4 only where a cell
 /// lies there: the class of a word doesn't look at memory.
-#[derive(Clone, Copy, Debug, Drop, PartialEq, Eq)]
+#[derive(Clone, Copy, Drop, PartialEq, Eq)]
 pub enum Class {
     /// An integer from -134,217,728 to 134,217,727.
     Small(i32),

@@ -1,7 +1,8 @@
 //! The table of words: from a word to its class, and from a value to its word.
 ghost use Rattle.std.specs.Prelude.{◌≡◌, ℕ, ℤ, ◌<◌, ◌^◌, ◌%◌, ◌/◌, ◌*◌};
 ghost use Rattle.tagged_words.specs.declared.kind.Class.TheVariants.{Small, Atom, Other};
-ghost use Rattle.tagged_words.specs.Word.{class_of, small_of, small_word, atom_word, header_word, IsSmall};
+ghost use Rattle.tagged_words.specs.Word.{class_of, small_of, small_word, atom_word, header_word};
+ghost use Rattle.term_tree.specs.Small.{IsSmall};
 
 use crate::kind::Class;
 

@@ -1,5 +1,6 @@
 -- Terms as trees (Erlang reference manual, Data Types): what all meanings speak of.
-use Rattle.std.specs.Prelude.{ℕ, ℤ, List, [], ◌∷◌}
+use Rattle.std.specs.Prelude.{ℕ, ℤ, List, [], ◌∷◌, Option, Some, None}
+use Rattle.std.specs.Option.{option_map}
 
 -- an atom has the bytes of its name in UTF-8; a list is made of conses
 mutual
@@ -19,7 +20,17 @@ abbrev pub trees_of : List Tree → Trees
 trees_of [] = No
 trees_of (t ∷ ts) = More t (trees_of ts)
 
+abbrev pub list_of : Trees → List Tree
+list_of No = []
+list_of (More t ts) = t ∷ list_of ts
+
 -- these elements in front of this tail
 abbrev pub conses : List Tree → Tree → Tree
 conses [] end = end
 conses (t ∷ ts) end = Cons t (conses ts end)
+
+-- the elements of a list that ends in `[]`
+abbrev pub elements_of : Tree → Option (List Tree)
+elements_of Nil = Some []
+elements_of (Cons h t) = option_map (λ ts. h ∷ ts) (elements_of t)
+elements_of _ = None

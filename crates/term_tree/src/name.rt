@@ -67,9 +67,9 @@ impl Name {
         }
     }
 
-    /// The name with a text of at most 255 bytes.
+    /// The name with a text of no more bytes than a name may have characters.
     pub fn from_short(alloc: Global, text: &str) -> Result<Name, AllocError>
-        requires { length text.now ≤ 255 }
+        requires { length text.now ≤ MOST_CHARACTERS }
         ensures { IfOk result (λ name. name ≡ text.now) }
     {
         let text = String::from_str(alloc, text)?;
