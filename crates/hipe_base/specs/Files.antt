@@ -1,11 +1,20 @@
 -- What files hold, what an open and a read do to them, and when they may fail: this crate's README,
 -- "Files".
-use Rattle.std.specs.Prelude.{◌≡◌, ◌⊎◌, ℕ, ◌≤◌, List, [], length, take, drop, Option, Some, None, IsSome, Result, Ok, Err, ⊤}
+use Rattle.std.specs.Prelude.{◌≡◌, ◌⊎◌, ℕ, Bool, ◌≤◌, List, [], length, take, drop, Option, Some, None, IsSome, Result, Ok, Err, ⊤}
 use Rattle.hipe_base.specs.Count.{Rose, counted}
 
 -- the bytes of each file by its name, where they are told
 abbrev pub Held : Type 0
 Held = Option (List ℕ → Option (List ℕ))
+
+-- what files tell: the bytes of each, and those left of the open one, or neither; whether one is open; the bytes that
+-- the reads have given, and the failures, counted
+pub record Told : Type 0 where
+  pub held : Held
+  pub left : Option (List ℕ)
+  pub is_open : Bool
+  pub taken : ℕ
+  pub faults : ℕ
 
 -- it is told that there is no such file
 abbrev pub Lacks : Held → List ℕ → Type 0

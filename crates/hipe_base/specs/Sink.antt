@@ -2,6 +2,12 @@
 use Rattle.std.specs.Prelude.{◌≡◌, ◌⊎◌, ℕ, ◌-◌, ◌≤◌, ◌<◌, List, ◌++◌, take, Option, Some, None, Result, Ok, Err}
 use Rattle.hipe_base.specs.Count.{Rose}
 
+-- what a sink tells: the bytes written and the room that is left, or neither; and its failures, counted
+pub record Seen : Type 0 where
+  pub written : Option (List ℕ)
+  pub room : Option ℕ
+  pub faults : ℕ
+
 -- the bytes written and more, where they are told
 abbrev pub with_more : Option (List ℕ) → List ℕ → Option (List ℕ)
 with_more None more = None

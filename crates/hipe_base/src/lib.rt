@@ -10,8 +10,6 @@ mod reading;
 mod safe_files;
 mod safe_sink;
 mod stored_file;
-#[cfg(test)]
-mod tests;
 mod writing;
 
 pub use mem_files::MemFiles;

@@ -69,17 +69,9 @@ impl Files for MemFiles {
     ghost use Rattle.std.specs.Prelude.{Some, is_some, refl};
     ghost use Rattle.hipe_base.specs.FileStore.{held_in, left_in};
 
-    ghost held = { λ m. held_in m.store };
+    ghost told = { λ x. record { held = held_in x.store; left = Some (left_in x.store); is_open = is_some x.store.left; taken = x.store.taken; faults = x.plan.faults } };
 
-    ghost left = { λ m. Some (left_in m.store) };
-
-    ghost is_open = { λ m. is_some m.store.left };
-
-    ghost taken = { λ m. m.store.taken };
-
-    ghost faults = { λ m. m.plan.faults };
-
-    ghost told = { λ m. refl };
+    ghost left_told = { λ x. refl };
 
     fn open(&mut self, name: &str) -> Result<(), Failed>
         ensures answer { result ≡ failing_open_answer self.old name.now }

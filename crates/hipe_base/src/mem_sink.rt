@@ -60,11 +60,7 @@ impl MemSink {
 }
 
 impl Sink for MemSink {
-    ghost written = { λ m. Some m.store.written };
-
-    ghost room = { λ m. Some m.store.room };
-
-    ghost faults = { λ m. m.plan.faults };
+    ghost seen = { λ x. record { written = Some x.store.written; room = Some x.store.room; faults = x.plan.faults } };
 
     fn write(&mut self, from: &[u8]) -> Result<usize, Failed>
         ensures answer { result ≡ failing_write_answer self.old (length from.now) }

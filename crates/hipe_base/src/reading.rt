@@ -49,22 +49,22 @@ pub fn read_file<F: Files>(
     name: &str,
     limit: usize,
 ) -> Result<Vec<u8>, ReadRefusal>
-    ensures bytes { IfOk result (λ v. HoldsFile (F.held files.old) name.now v.items) }
+    ensures bytes { IfOk result (λ v. HoldsFile (F.told files.old).held name.now v.items) }
     ensures limited { IfOk result (λ v. vec_len v ≤ limit) }
-    ensures all_taken { IfOk result (λ v. F.taken files.new ≡ counted (F.taken files.old) (vec_len v)) }
+    ensures all_taken { IfOk result (λ v. (F.told files.new).taken ≡ counted (F.told files.old).taken (vec_len v)) }
     ensures refused { IfErr
         result
         (IsRefused
-        (F.held files.old)
+        (F.told files.old).held
         name.now
         limit
-        (F.faults files.old)
-        (F.faults files.new)
-        (F.taken files.old)
-        (F.taken files.new)) }
-    ensures later { F.faults files.old ≤ F.faults files.new }
-    ensures none_untaken { F.taken files.old ≤ F.taken files.new }
-    ensures same { F.held files.new ≡ F.held files.old }
+        (F.told files.old).faults
+        (F.told files.new).faults
+        (F.told files.old).taken
+        (F.told files.new).taken) }
+    ensures later { (F.told files.old).faults ≤ (F.told files.new).faults }
+    ensures none_untaken { (F.told files.old).taken ≤ (F.told files.new).taken }
+    ensures same { (F.told files.new).held ≡ (F.told files.old).held }
 {
     files.open(name)?;
     let mut bytes = Vec::new(alloc);

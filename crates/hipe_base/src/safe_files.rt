@@ -81,17 +81,9 @@ impl Files for SafeFiles {
     ghost use Rattle.std.specs.Prelude.{Some, is_some, refl};
     ghost use Rattle.hipe_base.specs.FileStore.{held_in, left_in};
 
-    ghost held = { held_in };
+    ghost told = { λ x. record { held = held_in x; left = Some (left_in x); is_open = is_some x.left; taken = x.taken; faults = 0 } };
 
-    ghost left = { λ s. Some (left_in s) };
-
-    ghost is_open = { λ s. is_some s.left };
-
-    ghost taken = { λ s. s.taken };
-
-    ghost faults = { λ s. 0 };
-
-    ghost told = { λ s. refl };
+    ghost left_told = { λ x. refl };
 
     fn open(&mut self, name: &str) -> Result<(), Failed>
         ensures answer { result ≡ open_answer self.old name.now }

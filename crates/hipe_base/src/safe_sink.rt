@@ -60,11 +60,7 @@ impl SafeSink {
 }
 
 impl Sink for SafeSink {
-    ghost written = { λ s. Some s.written };
-
-    ghost room = { λ s. Some s.room };
-
-    ghost faults = { λ s. 0 };
+    ghost seen = { λ x. record { written = Some x.written; room = Some x.room; faults = 0 } };
 
     fn write(&mut self, from: &[u8]) -> Result<usize, Failed>
         ensures answer { result ≡ write_answer self.old (length from.now) }

@@ -14,16 +14,16 @@ pub struct SinkFault {
 
 /// Writes all of `bytes`.
 pub fn put<S: Sink>(sink: &mut S, bytes: &[u8]) -> Result<(), SinkFault>
-    ensures bytes { PutsBytes result bytes.now (S.written sink.old) (S.written sink.new) }
-    ensures room { FillsRoom result (length bytes.now) (S.room sink.old) (S.room sink.new) }
+    ensures bytes { PutsBytes result bytes.now (S.seen sink.old).written (S.seen sink.new).written }
+    ensures room { FillsRoom result (length bytes.now) (S.seen sink.old).room (S.seen sink.new).room }
     ensures failed { OnErr
         result
         (SinkFailed
-        (S.faults sink.old)
-        (S.faults sink.new)
-        (S.room sink.old)
+        (S.seen sink.old).faults
+        (S.seen sink.new).faults
+        (S.seen sink.old).room
         (length bytes.now)) }
-    ensures later { S.faults sink.old ≤ S.faults sink.new }
+    ensures later { (S.seen sink.old).faults ≤ (S.seen sink.new).faults }
 {
     let mut written = 0;
     while written < bytes.len() {

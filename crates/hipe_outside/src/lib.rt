@@ -3,8 +3,6 @@
 
 mod real_files;
 mod stream;
-#[cfg(test)]
-mod tests;
 
 pub use real_files::RealFiles;
 pub use stream::Stream;

@@ -61,17 +61,9 @@ impl<R: rt::Files + Drop> RealFiles<R> {
 impl<R: rt::Files + Drop> Files for RealFiles<R> {
     ghost use Rattle.std.specs.Prelude.{None, refl};
 
-    ghost held = { λ f. None };
+    ghost told = { λ x. record { held = None; left = None; is_open = x.counts.is_open; taken = x.counts.taken; faults = x.counts.faults } };
 
-    ghost left = { λ f. None };
-
-    ghost is_open = { λ f. f.counts.is_open };
-
-    ghost taken = { λ f. f.counts.taken };
-
-    ghost faults = { λ f. f.counts.faults };
-
-    ghost told = { λ f. refl };
+    ghost left_told = { λ x. refl };
 
     fn open(&mut self, name: &str) -> Result<(), Failed>
         ensures after { self.new.counts ≡ after_open self.old.counts result }

@@ -36,11 +36,7 @@ impl<W: Write + Drop> Stream<W> {
 impl<W: Write + Drop> Sink for Stream<W> {
     ghost use Rattle.std.specs.Prelude.{None};
 
-    ghost written = { λ s. None };
-
-    ghost room = { λ s. None };
-
-    ghost faults = { λ s. s.faults };
+    ghost seen = { λ x. record { written = None; room = None; faults = x.faults } };
 
     fn write(&mut self, from: &[u8]) -> Result<usize, Failed>
         ensures empty { length from.now ≡ 0 → result ≡ Ok 0 }

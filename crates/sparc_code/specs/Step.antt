@@ -229,17 +229,9 @@ LeavesRegisters (Goes next) before after (Ok done) = after ≡ next
 LeavesRegisters (Faults fault) before after (Err found) = (found ≡ fault) × (after ≡ before)
 LeavesRegisters _ before after _ = ⊥
 
--- no word changed
-abbrev pub IsSameMemory : (ℕ → Option ℕ) → (ℕ → Option ℕ) → Type 0
-IsSameMemory before after = (address : ℕ) → after address ≡ before address
-
--- one word changed
-abbrev pub HasStored : (ℕ → Option ℕ) → (ℕ → Option ℕ) → ℕ → ℕ → Type 0
-HasStored before after at word = (address : ℕ) → after address ≡ (if nat_eq address at then Some word else before address)
-
 -- registers, memory and answer are what an effect says: after a fault both are as they were
-abbrev pub Leaves : Effect → Regs → Regs → (ℕ → Option ℕ) → (ℕ → Option ℕ) → Result (Unit {0}) MachineFault → Type 0
-Leaves (Goes next) before after words left (Ok done) = (after ≡ next) × IsSameMemory words left
-Leaves (Stores next at word) before after words left (Ok done) = (after ≡ next) × HasStored words left at word
-Leaves (Faults fault) before after words left (Err found) = (found ≡ fault) × (after ≡ before) × IsSameMemory words left
-Leaves _ before after words left _ = ⊥
+abbrev pub Leaves : {M : Type 0} → (M → ℕ → ℕ → M) → Effect → Regs → Regs → M → M → Result (Unit {0}) MachineFault → Type 0
+Leaves stored (Goes next) before after memory left (Ok done) = (after ≡ next) × (left ≡ memory)
+Leaves stored (Stores next at word) before after memory left (Ok done) = (after ≡ next) × (left ≡ stored memory at word)
+Leaves stored (Faults fault) before after memory left (Err found) = (found ≡ fault) × (after ≡ before) × (left ≡ memory)
+Leaves stored _ before after memory left _ = ⊥

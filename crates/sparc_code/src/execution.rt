@@ -1,8 +1,8 @@
 //! One instruction is done.
 
-ghost use Rattle.std.specs.Prelude.{ℕ, ◌≡◌, ◌<◌, ◌^◌, Bool, is_some, OnErr};
+ghost use Rattle.std.specs.Prelude.{ℕ, ◌≡◌, ◌<◌, ◌^◌, OnErr};
 ghost use Rattle.sparc_code.specs.Code.{decoded, IsInWidth, IsRegister};
-ghost use Rattle.sparc_code.specs.Step.{Leaves, LeavesRegisters, IsSameMemory, word_effect, effect_of, arith_effect, load_effect, store_effect};
+ghost use Rattle.sparc_code.specs.Step.{Leaves, LeavesRegisters, word_effect, effect_of, arith_effect, load_effect, store_effect};
 
 use crate::decoding::decode;
 use crate::instruction::{ArithOp, Instr};
@@ -13,10 +13,8 @@ use crate::registers::{is_aligned, is_jump};
 /// Does one instruction: `word` is the word at PC. After a fault registers and memory are as they were.
 #[inline]
 pub fn step<M: WordMemory>(regs: &mut Regs, word: u32, memory: &mut M) -> Result<(), MachineFault>
-    ensures effect { Leaves (word_effect (M.words memory.old) (M.stores memory.old) regs.old (decoded word)) regs.old regs.new (M.words memory.old) (M.words memory.new) result }
-    ensures unchanged { OnErr result ((regs.new ≡ regs.old) × IsSameMemory (M.words memory.old) (M.words memory.new)) }
-    ensures same_places { (a : ℕ) → M.stores memory.new a ≡ M.stores memory.old a }
-    ensures same_keys { (a : ℕ) → is_some (M.words memory.new a) ≡ is_some (M.words memory.old a) }
+    ensures effect { Leaves M.stored (word_effect (M.words memory.old) (M.stores memory.old) regs.old (decoded word)) regs.old regs.new memory.old memory.new result }
+    ensures unchanged { OnErr result ((regs.new ≡ regs.old) × (memory.new ≡ memory.old)) }
 {
     match decode(word) {
         Some(instr) => execute(regs, instr, memory),
@@ -27,9 +25,7 @@ pub fn step<M: WordMemory>(regs: &mut Regs, word: u32, memory: &mut M) -> Result
 #[inline]
 fn execute<M: WordMemory>(regs: &mut Regs, instr: Instr, memory: &mut M) -> Result<(), MachineFault>
     requires { IsInWidth instr }
-    ensures effect { Leaves (effect_of (M.words memory.old) (M.stores memory.old) regs.old instr) regs.old regs.new (M.words memory.old) (M.words memory.new) result }
-    ensures same_places { (a : ℕ) → M.stores memory.new a ≡ M.stores memory.old a }
-    ensures same_keys { (a : ℕ) → is_some (M.words memory.new a) ≡ is_some (M.words memory.old a) }
+    ensures { Leaves M.stored (effect_of (M.words memory.old) (M.stores memory.old) regs.old instr) regs.old regs.new memory.old memory.new result }
 {
     match instr {
         Instr::Call { disp } => {
@@ -103,9 +99,7 @@ fn store<M: WordMemory>(
     memory: &mut M,
 ) -> Result<(), MachineFault>
     requires { IsRegister rd }
-    ensures effect { Leaves (store_effect (M.stores memory.old) regs.old rd addr) regs.old regs.new (M.words memory.old) (M.words memory.new) result }
-    ensures same_places { (a : ℕ) → M.stores memory.new a ≡ M.stores memory.old a }
-    ensures same_keys { (a : ℕ) → is_some (M.words memory.new a) ≡ is_some (M.words memory.old a) }
+    ensures { Leaves M.stored (store_effect (M.stores memory.old) regs.old rd addr) regs.old regs.new memory.old memory.new result }
 {
     if !is_aligned(addr) {
         return Err(MachineFault::Unaligned(addr));

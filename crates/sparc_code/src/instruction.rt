@@ -1,7 +1,7 @@
 //! One instruction as a value.
 
 /// The second operand of an instruction.
-#[derive(Clone, Copy, PartialEq, Eq, Debug)]
+#[derive(Clone, Copy)]
 pub enum Source {
     /// A register, 0 to 31.
     Reg(u8),
@@ -11,7 +11,7 @@ pub enum Source {
 
 /// What an instruction of the arithmetic format does with its two operands. `Cc` in a name says that it sets
 /// the condition codes.
-#[derive(Clone, Copy, PartialEq, Eq, Debug)]
+#[derive(Clone, Copy)]
 pub enum ArithOp {
     /// `add`
     Add,
@@ -48,7 +48,7 @@ pub enum ArithOp {
 }
 
 /// When a branch is taken, in the manual's order: each of the last eight is the contrary of the one eight before it.
-#[derive(Clone, Copy, PartialEq, Eq, Debug)]
+#[derive(Clone, Copy)]
 pub enum Cond {
     /// `bn`
     Never,
@@ -86,7 +86,7 @@ pub enum Cond {
 
 /// One instruction. Registers are numbers from 0 to 31: `%g0` to `%g7`, `%o0` to `%o7`, `%l0` to `%l7`, `%i0` to `%i7`.
 /// An instruction is in width where each part fits its bits in a word.
-#[derive(Clone, Copy, PartialEq, Eq, Debug)]
+#[derive(Clone, Copy)]
 pub enum Instr {
     /// `call`, with its distance in words, of 30 bits with a sign.
     Call {

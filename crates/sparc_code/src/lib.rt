@@ -18,6 +18,3 @@ pub use execution::step;
 pub use instruction::{ArithOp, Cond, Instr, Source};
 pub use machine::{MachineFault, Regs};
 pub use memory::WordMemory;
-
-#[cfg(test)]
-mod tests;

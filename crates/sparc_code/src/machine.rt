@@ -3,7 +3,7 @@
 use thiserror::Error;
 
 /// The registers that a program sees.
-#[derive(Clone, Copy, PartialEq, Eq, Debug)]
+#[derive(Clone, Copy, PartialEq, Eq)]
 pub struct Regs {
     /// `%g0` to `%g7`, `%o0` to `%o7`, `%l0` to `%l7`, `%i0` to `%i7`. `%g0` reads 0 whatever stands here.
     pub r: [u32; 32],

@@ -5,12 +5,12 @@ use Rattle.hipe_base.proofs.reading.read_file.Given as goal
 
 abbrev pub invariant-pieces : goal.invariant-pieces
 invariant-pieces g l = record {
-  opened : IsTrue (g.F.Files.is_open l.files);
-  remains : Remains (g.F.Files.held l.fn.files) l.name l.bytes.items (g.F.Files.left l.files);
+  opened : IsTrue (g.F.Files.told l.files).is_open;
+  remains : Remains (g.F.Files.told l.fn.files).held l.name l.bytes.items (g.F.Files.told l.files).left;
   limited : vec_len l.bytes ≤ l.limit;
-  all_taken : g.F.Files.taken l.files ≡ counted (g.F.Files.taken l.fn.files) (vec_len l.bytes);
-  later : g.F.Files.faults l.fn.files ≤ g.F.Files.faults l.files;
-  same : g.F.Files.held l.files ≡ g.F.Files.held l.fn.files;
+  all_taken : (g.F.Files.told l.files).taken ≡ counted (g.F.Files.told l.fn.files).taken (vec_len l.bytes);
+  later : (g.F.Files.told l.fn.files).faults ≤ (g.F.Files.told l.files).faults;
+  same : (g.F.Files.told l.files).held ≡ (g.F.Files.told l.fn.files).held;
 }
 
 abbrev pub decreases-pieces : goal.decreases-pieces
