@@ -1,20 +1,12 @@
--- Functions of modules by their numbers, and what a frame of theirs costs (docs/BEAM.md, Functions).
-use Rattle.std.specs.Prelude.{ℕ, ◌+◌, ◌==◌, ◌&&◌, Bool, true, false, Option, Some, None, List, [], ◌∷◌, ◌++◌, map, max, slice_get, length, nat_eq, if◌then◌else◌}
-use Rattle.std.specs.Cmp.Lexicographic.{pointwise}
-use Rattle.std.specs.Option.{option_map}
+-- Functions of modules by their numbers, their labels, and what a frame of theirs costs (docs/BEAM.md, Functions).
+use Rattle.std.specs.Prelude.{ℕ, ◌+◌, ◌&&◌, Bool, true, false, Option, Some, None, List, [], ◌∷◌, ◌++◌, map, max, slice_get, length, nat_eq, if◌then◌else◌}
 use Rattle.beam_code.specs.declared.instr.Instr.{Instr}
-use Rattle.beam_code.specs.declared.instr.Instr.TheVariants.{Label, FuncInfo, Move, Return}
-use Rattle.beam_code.specs.declared.instr.Operand.{Operand}
-use Rattle.beam_code.specs.declared.instr.Operand.TheVariants.{X, Y, Int, Atom, Nil, Literal}
-use Rattle.beam_code.specs.declared.instr.Place.{Place}
-use Rattle.beam_code.specs.declared.instr.Place.TheVariants as place
+use Rattle.beam_code.specs.declared.instr.Instr.TheVariants.{Label}
 use Rattle.beam_code.specs.declared.module.Function.{Function}
 use Rattle.beam_code.specs.declared.module.Item.{Item}
 use Rattle.beam_code.specs.declared.module.Module.{Module}
-
--- whether two names are the same text
-abbrev pub same_name : List ℕ → List ℕ → Bool
-same_name a b = pointwise ◌==◌ a b
+use Rattle.beam_code.specs.Registers.{instr_xs, instr_ys}
+pub use Rattle.term_tree.specs.Name.{same_name}
 
 -- a function, with the module that it stands in
 pub record Placed : Type 0 where
@@ -42,7 +34,7 @@ abbrev pub is_named : List ℕ → List ℕ → ℕ → Placed → Bool
 is_named m f arity p = same_name m p.owner.name && same_name f p.function.name && nat_eq arity p.function.arity
 
 -- the place of the first one that passes, counted from a number on
-abbrev pub first_that : (Placed → Bool) → ℕ → List Placed → Option ℕ
+abbrev pub first_that : {A : Type 0} → (A → Bool) → ℕ → List A → Option ℕ
 first_that test at [] = None
 first_that test at (p ∷ ps) = if test p then Some at else first_that test (at + 1) ps
 
@@ -62,32 +54,37 @@ exports_of (n ∷ ns) m = if same_name m n.name then n.exports else exports_of n
 abbrev pub exported_number : List Module → List ℕ → List ℕ → ℕ → Option ℕ
 exported_number ms m f arity = if is_exported f arity (exports_of ms m) then number_of ms m f arity else None
 
--- one more than the greatest index of an x register that an operand or a place names, or 0
-abbrev pub operand_xs : Operand → ℕ
-operand_xs (X n) = n + 1
-operand_xs (Y n) = 0
-operand_xs (Int i) = 0
-operand_xs (Atom a) = 0
-operand_xs Nil = 0
-operand_xs (Literal t) = 0
+-- whether a module of this name is given
+abbrev pub is_given : List Module → List ℕ → Bool
+is_given [] m = false
+is_given (n ∷ ns) m = if same_name m n.name then true else is_given ns m
 
-abbrev pub place_xs : Place → ℕ
-place_xs (place.X n) = n + 1
-place_xs (place.Y n) = 0
+-- whether an item is this label
+abbrev pub is_label : ℕ → Instr → Bool
+is_label n (Label m) = nat_eq n m
+is_label n _ = false
 
--- the same of an instruction, registers that it reads or writes without naming them included
-abbrev pub instr_xs : Instr → ℕ
-instr_xs (Label n) = 0
-instr_xs (FuncInfo m f arity) = 0
-instr_xs (Move from to) = max (operand_xs from) (place_xs to)
-instr_xs Return = 1
+abbrev pub is_label_item : ℕ → Item → Bool
+is_label_item n i = is_label n i.instr
 
--- the y registers that an instruction allocates
-abbrev pub instr_ys : Instr → ℕ
-instr_ys (Label n) = 0
-instr_ys (FuncInfo m f arity) = 0
-instr_ys (Move from to) = 0
-instr_ys Return = 0
+-- the item of a label
+abbrev pub label_in : Function → ℕ → Option ℕ
+label_in f n = first_that (is_label_item n) 0 f.items
+
+-- whether calls of a function begin at this label
+abbrev pub is_label_at : ℕ → Option Item → Bool
+is_label_at n None = false
+is_label_at n (Some i) = is_label_item n i
+
+abbrev pub is_entry_label : ℕ → Function → Bool
+is_entry_label n f = is_label_at n (slice_get f.items f.entry)
+
+-- the number of the function of this entry label and arity in this module
+abbrev pub is_target : List ℕ → ℕ → ℕ → Placed → Bool
+is_target m n arity p = same_name m p.owner.name && is_entry_label n p.function && nat_eq arity p.function.arity
+
+abbrev pub target_of : List Module → Placed → ℕ → ℕ → Option ℕ
+target_of ms p n arity = first_that (is_target p.owner.name n arity) 0 (all_functions ms)
 
 -- the greatest of a number for each item
 abbrev pub most_of : (Instr → ℕ) → List Item → ℕ

@@ -1,6 +1,12 @@
-pub mod Frame
+pub mod Shape
+pub mod Registers
 pub mod Function
-pub mod Raise
-pub mod Row
 pub mod State
+pub mod Answer
+pub mod BuiltIns
+pub mod Uses
+pub mod Gates
+pub mod Row
+pub mod Raise
+pub mod Frame
 pub mod Meaning

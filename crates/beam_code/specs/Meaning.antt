@@ -1,13 +1,13 @@
 -- The meaning of a call (docs/BEAM.md, Meaning).
-use Rattle.std.specs.Prelude.{ℕ, ◌+◌, ◌-◌, ◌*◌, Option, Some, None, List, [], ◌∷◌, ◌++◌, length, map, replicate}
-use Rattle.small_step.specs.Stage.{Stage, Still, Done, run}
+use Rattle.std.specs.Prelude.{ℕ, ◌+◌, ◌*◌, Option, Some, None, List, [], ◌∷◌}
+use Rattle.small_step.specs.Stage.{Stage, run}
 use Rattle.term_tree.specs.Tree as t
 use Rattle.term_tree.specs.Size.{words_of}
 use Rattle.beam_code.specs.declared.call.Limits.{Limits}
 use Rattle.beam_code.specs.declared.module.Module.{Module}
 use Rattle.beam_code.specs.Frame.{beam_step, state_of}
 use Rattle.beam_code.specs.Function.{Placed, function_at, items_of}
-use Rattle.beam_code.specs.State.{BeamState, Finish, x_registers}
+use Rattle.beam_code.specs.State.{BeamState, Finish, only}
 
 -- the heap words of several terms
 abbrev pub words_in : List t.Tree → ℕ
@@ -18,12 +18,12 @@ abbrev pub entry_of : Option Placed → ℕ
 entry_of None = 0
 entry_of (Some p) = p.function.entry
 
--- the start of a call: the arguments in x0 and up, no frame that waits
+-- the start of a call: its function at the entry, and no frame that waits
 abbrev pub first_state : List Module → Limits → ℕ → List t.Tree → BeamState
 first_state ms limits fid args =
     state_of fid [] (record {
       item = entry_of (function_at ms fid);
-      xs = map (λ v. Some v) args ++ replicate (x_registers - length args) None;
+      xs = only args;
       ys = None;
       used = words_in args;
       left = limits.reductions;

@@ -1,6 +1,5 @@
 -- The state of the virtual machine (docs/BEAM.md, State).
-use Rattle.std.specs.Prelude.{ℕ, ◌+◌, Option, Some, None, List, slice_get}
-use Rattle.beam_code.specs.declared.module.HandlerKind.{HandlerKind}
+use Rattle.std.specs.Prelude.{ℕ, ◌-◌, Option, Some, None, List, ◌++◌, length, map, replicate}
 use Rattle.beam_code.specs.declared.call.RaiseClass.{RaiseClass}
 use Rattle.term_tree.specs.Tree.{Tree}
 
@@ -8,11 +7,16 @@ use Rattle.term_tree.specs.Tree.{Tree}
 abbrev pub x_registers : ℕ
 x_registers = 256
 
+-- which instruction made a mark, a `try` or a `catch`
+pub data TagKind : Type 0 where
+  OfTry : TagKind
+  OfCatch : TagKind
+
 -- a y register: not written, a term, or the mark of a handler with its label
 pub data Slot : Type 0 where
   Undefined : Slot
   Holds : Tree → Slot
-  Tag : HandlerKind → ℕ → Slot
+  Tag : TagKind → ℕ → Slot
 
 -- what a running function has: its item; x registers, of which some are undefined; y registers, or no stack frame;
 -- the heap words used so far and the reductions left
@@ -55,10 +59,14 @@ pub record Finish : Type 0 where
   pub outcome : Outcome
   pub state : BeamState
 
--- what a running function does to the frames around it
+-- what a running function does to the frames around it: it calls a function by number with these arguments, and so on
 pub data Event : Type 0 where
-  Calls : ℕ → Local → Event
-  TailCalls : ℕ → Local → Event
+  Calls : ℕ → List Tree → Local → Event
+  TailCalls : ℕ → List Tree → Local → Event
   Returns : Tree → Local → Event
   Raises : RaiseClass → Tree → Local → Event
   Ends : End → Local → Event
+
+-- x registers with these terms in x0 and up, and every other one undefined
+abbrev pub only : List Tree → List (Option Tree)
+only vs = map (λ v. Some v) vs ++ replicate (x_registers - length vs) None

@@ -1,19 +1,17 @@
-ghost use Rattle.beam_code.specs.Function.{operand_xs, place_xs, instr_xs, instr_ys, most_of, cost_of};
+ghost use Rattle.beam_code.specs.Function.{most_of, cost_of};
+ghost use Rattle.beam_code.specs.Registers.{operand_xs, operands_xs, place_xs, instr_xs, instr_ys};
 ghost use Rattle.std.specs.Prelude.{◌≡◌, ◌-◌, ◌^◌, min};
 
 use crate::{Function, Instr, Item, Operand, Place};
 
-/// One more than the index of the x register that an operand names, or 0.
-fn operand_xs(operand: &Operand) -> u32
-    ensures { result ≡ operand_xs operand.now }
+fn operand_xs(s: &Operand) -> u32
+    ensures { result ≡ operand_xs s.now }
 {
-    match operand {
+    match s {
         Operand::X(n) => u32::from(*n) + 1,
-        Operand::Y(_) => 0,
-        Operand::Int(_) => 0,
-        Operand::Atom(_) => 0,
-        Operand::Nil => 0,
-        Operand::Literal(_) => 0,
+        Operand::Y(_) | Operand::Int(_) | Operand::Atom(_) | Operand::Nil | Operand::Literal(_) => {
+            0
+        }
     }
 }
 
@@ -26,15 +24,65 @@ fn place_xs(place: Place) -> u32
     }
 }
 
+fn operands_xs(all: &[Operand]) -> u32
+    ensures { result ≡ operands_xs all.now }
+{
+    let mut most = 0;
+    for s in all {
+        most = most.max(operand_xs(s));
+    }
+    most
+}
+
 /// One more than the greatest index of an x register that an instruction reads or writes, or 0.
 fn instr_xs(instr: &Instr) -> u32
     ensures { result ≡ instr_xs instr.now }
 {
     match instr {
-        Instr::Label(_) => 0,
-        Instr::FuncInfo(_, _, _) => 0,
-        Instr::Move(from, to) => operand_xs(from).max(place_xs(*to)),
-        Instr::Return => 1,
+        Instr::Move(s, d)
+        | Instr::GetHd(s, d)
+        | Instr::GetTl(s, d)
+        | Instr::GetTupleElement(s, _, d) => operand_xs(s).max(place_xs(*d)),
+        Instr::Swap(d, e) => place_xs(*d).max(place_xs(*e)),
+        Instr::GetList(s, d, e) => operand_xs(s).max(place_xs(*d).max(place_xs(*e))),
+        Instr::PutList(s, u, d) => operand_xs(s).max(operand_xs(u).max(place_xs(*d))),
+        Instr::PutTuple2(d, all) | Instr::Bif(_, _, all, d) | Instr::GcBif(_, _, _, all, d) => {
+            operands_xs(all.as_slice()).max(place_xs(*d))
+        }
+        Instr::Test(_, _, all) => operands_xs(all.as_slice()),
+        Instr::SelectVal(s, _, _)
+        | Instr::SelectTupleArity(s, _, _)
+        | Instr::Badmatch(s)
+        | Instr::CaseEnd(s)
+        | Instr::TryCaseEnd(s) => operand_xs(s),
+        Instr::BifRaise(s, u, _) | Instr::Raise(s, u, _) => operand_xs(s).max(operand_xs(u)),
+        Instr::Call(arity, _)
+        | Instr::CallExt(arity, _)
+        | Instr::CallLast(arity, _, _)
+        | Instr::CallExtLast(arity, _, _)
+        | Instr::CallOnly(arity, _)
+        | Instr::CallExtOnly(arity, _) => (*arity).max(1),
+        Instr::Return | Instr::CatchEnd(_) => 1,
+        Instr::RawRaise => 3,
+        Instr::Label(_)
+        | Instr::Line(_)
+        | Instr::Comment(_)
+        | Instr::FuncInfo(_, _, _)
+        | Instr::Jump(_)
+        | Instr::Allocate(_, _)
+        | Instr::AllocateZero(_, _)
+        | Instr::AllocateHeap(_, _, _)
+        | Instr::AllocateHeapZero(_, _, _)
+        | Instr::TestHeap(_, _)
+        | Instr::Init(_)
+        | Instr::Kill(_)
+        | Instr::Trim(_, _)
+        | Instr::Deallocate(_)
+        | Instr::IfEnd
+        | Instr::Try(_, _)
+        | Instr::Catch(_, _)
+        | Instr::TryEnd(_)
+        | Instr::TryCase(_) => 0,
     }
 }
 
@@ -43,10 +91,52 @@ fn instr_ys(instr: &Instr) -> u32
     ensures { result ≡ instr_ys instr.now }
 {
     match instr {
-        Instr::Label(_) => 0,
-        Instr::FuncInfo(_, _, _) => 0,
-        Instr::Move(_, _) => 0,
-        Instr::Return => 0,
+        Instr::Allocate(n, _)
+        | Instr::AllocateZero(n, _)
+        | Instr::AllocateHeap(n, _, _)
+        | Instr::AllocateHeapZero(n, _, _) => *n,
+        Instr::Label(_)
+        | Instr::Line(_)
+        | Instr::Comment(_)
+        | Instr::FuncInfo(_, _, _)
+        | Instr::Move(_, _)
+        | Instr::Swap(_, _)
+        | Instr::GetList(_, _, _)
+        | Instr::GetHd(_, _)
+        | Instr::GetTl(_, _)
+        | Instr::GetTupleElement(_, _, _)
+        | Instr::PutList(_, _, _)
+        | Instr::PutTuple2(_, _)
+        | Instr::Test(_, _, _)
+        | Instr::SelectVal(_, _, _)
+        | Instr::SelectTupleArity(_, _, _)
+        | Instr::Jump(_)
+        | Instr::TestHeap(_, _)
+        | Instr::Init(_)
+        | Instr::Kill(_)
+        | Instr::Trim(_, _)
+        | Instr::Deallocate(_)
+        | Instr::Return
+        | Instr::Call(_, _)
+        | Instr::CallExt(_, _)
+        | Instr::CallLast(_, _, _)
+        | Instr::CallExtLast(_, _, _)
+        | Instr::CallOnly(_, _)
+        | Instr::CallExtOnly(_, _)
+        | Instr::Bif(_, _, _, _)
+        | Instr::GcBif(_, _, _, _, _)
+        | Instr::Badmatch(_)
+        | Instr::CaseEnd(_)
+        | Instr::TryCaseEnd(_)
+        | Instr::IfEnd
+        | Instr::Try(_, _)
+        | Instr::Catch(_, _)
+        | Instr::TryEnd(_)
+        | Instr::TryCase(_)
+        | Instr::CatchEnd(_)
+        | Instr::BifRaise(_, _, _)
+        | Instr::Raise(_, _, _)
+        | Instr::RawRaise => 0,
     }
 }
 

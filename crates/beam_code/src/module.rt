@@ -26,6 +26,9 @@ pub struct Function {
     pub items: Items<Item>,
 }
 
+/// The most bytes of a module's text, and of the texts of several together.
+pub const MOST_TEXT_BYTES: usize = 4_194_304;
+
 /// A module, with the bytes of the text that it was read from.
 #[derive(Drop, Debug)]
 pub struct Module {

@@ -1,6 +1,7 @@
 -- The greatest so far, and that of the items that are left.
 use Rattle.std.proofs.Common.{◌≡◌, max, drop}
-use Rattle.beam_code.specs.Function.{instr_xs, most_of}
+use Rattle.beam_code.specs.Function.{most_of}
+use Rattle.beam_code.specs.Registers.{instr_xs}
 use Rattle.beam_code.proofs.costs.most_xs.Given as goal
 
 abbrev pub invariant-loop-item : goal.invariant-loop-item

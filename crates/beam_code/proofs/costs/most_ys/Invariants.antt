@@ -1,6 +1,7 @@
 -- The greatest so far, and that of the items that are left.
 use Rattle.std.proofs.Common.{◌≡◌, max, drop}
-use Rattle.beam_code.specs.Function.{instr_ys, most_of}
+use Rattle.beam_code.specs.Function.{most_of}
+use Rattle.beam_code.specs.Registers.{instr_ys}
 use Rattle.beam_code.proofs.costs.most_ys.Given as goal
 
 abbrev pub invariant-loop-item : goal.invariant-loop-item

@@ -1,0 +1,11 @@
+pub mod Hand
+pub mod Rows
+pub mod Small
+pub mod Values
+pub mod Control
+pub mod Exceptions
+pub mod Terms
+pub mod Tables
+pub mod Raising
+pub mod Gates
+pub mod Uses
