@@ -8,17 +8,17 @@ use Rattle.std.proofs.lemmas.List.{append-nil, length-take-le}
 use Rattle.std.proofs.lemmas.Str.{chars-nil, chars-append, chars-IsAscii, chars_from_encodes, IsUtf8-nil, IsUtf8-append, IsUtf8-encode}
 use Rattle.term_tree.specs.Name.{characters_in}
 use Rattle.term_tree.specs.Small.{small_limit}
-use Rattle.asm_text.specs.declared.token.Kind.TheVariants.{Based}
-use Rattle.asm_text.specs.declared.token.Reason.TheVariants.{Syntax, OfKind}
-use Rattle.asm_text.specs.declared.token.Token.{Token}
-use Rattle.asm_text.specs.declared.token.Token.TheVariants as k
-use Rattle.asm_text.specs.declared.token.Piece.{Piece}
-use Rattle.asm_text.specs.declared.token.Piece.TheVariants as p
-use Rattle.asm_text.specs.Character.{between_quotes, quoted_character, run, begins, is, number_after}
+use Rattle.text_tokens.specs.declared.token.Kind.TheVariants.{Based}
+use Rattle.text_tokens.specs.declared.token.Reason.TheVariants.{Syntax, OfKind}
+use Rattle.text_tokens.specs.declared.token.Token.{Token}
+use Rattle.text_tokens.specs.declared.token.Token.TheVariants as k
+use Rattle.text_tokens.specs.declared.token.Piece.{Piece}
+use Rattle.text_tokens.specs.declared.token.Piece.TheVariants as p
+use Rattle.text_tokens.specs.Character.{between_quotes, quoted_character, run, begins, is, number_after}
 use Rattle.asm_text.specs.Entry.{atom_piece}
-use Rattle.asm_text.specs.Pieces.{is_name_byte, is_no_line_feed, is_separator, is_digit, is_lower, begins_fraction, comment, integer, float, number, quoted, bare_atom, dot, mark, piece}
-use Rattle.asm_text.proofs.Bytes.{run-ascii}
-use Rattle.asm_text.proofs.Quotes.{quotes-skip, quotes-close, quotes-bad, quotes-more}
+use Rattle.text_tokens.specs.Pieces.{is_name_byte, is_no_line_feed, is_separator, is_digit, is_lower, begins_fraction, comment, integer, float, number, quoted, bare_atom, dot, mark, piece}
+use Rattle.text_tokens.proofs.Bytes.{run-ascii}
+use Rattle.text_tokens.proofs.Quotes.{quotes-skip, quotes-close, quotes-bad, quotes-more}
 
 -- the count of the characters of a text, with what is left behind it
 abbrev counts : List ℕ × ℕ → ℕ × ℕ

@@ -4,18 +4,18 @@ use denote.Hole.Carrier.{roll}
 use Rattle.term_tree.specs.declared.term.Term as t
 use Rattle.term_tree.specs.declared.term.Term.{Term, out-Term, roll-Term, out-roll-Term}
 use Rattle.term_tree.specs.declared.term.Term.TheOpen.{Term-F}
-use Rattle.asm_text.specs.declared.token.Token.{Token}
-use Rattle.asm_text.specs.declared.token.Token.TheVariants as k
-use Rattle.asm_text.specs.declared.token.Piece.{Piece}
-use Rattle.asm_text.specs.declared.token.Piece.TheVariants as p
-use Rattle.asm_text.specs.declared.token.Reason.{Reason}
-use Rattle.asm_text.specs.declared.stand.Form.{Form}
-use Rattle.asm_text.specs.Grammar.{with_layer}
-use Rattle.asm_text.specs.Pieces.{piece}
-use Rattle.asm_text.specs.Tokens.{Tokens, Stop, Bad, More, tokens_after, line_after}
+use Rattle.text_tokens.specs.declared.token.Token.{Token}
+use Rattle.text_tokens.specs.declared.token.Token.TheVariants as k
+use Rattle.text_tokens.specs.declared.token.Piece.{Piece}
+use Rattle.text_tokens.specs.declared.token.Piece.TheVariants as p
+use Rattle.text_tokens.specs.declared.token.Reason.{Reason}
+use Rattle.text_forms.specs.declared.form.Form.{Form}
+use Rattle.text_forms.specs.Spelling.{with_layer}
+use Rattle.text_tokens.specs.Pieces.{piece}
+use Rattle.text_tokens.specs.Tokens.{Tokens, Stop, Bad, More, Lined, at, lined, tokens_after, line_after}
 use Rattle.asm_text.specs.Reading.{reading}
-use Rattle.asm_text.specs.Spelling.{Lined, at, lined, Phrase, One, Strings, Terms, Pairs, Spells, integer, atom, wide, float, strings, empty_tuple, tuple, empty_list, list, tail, empty_map, map as map_of, one_string, more_strings, one_term, more_terms, one_pair, more_pairs, IsForm, strict_form, loose_form, AreForms, no_forms, more_forms}
-use Rattle.asm_text.proofs.Spelled.{reading-spelled}
+use Rattle.text_forms.specs.Spelling.{Phrase, One, Strings, Terms, Pairs, Spells, integer, atom, wide, float, strings, empty_tuple, tuple, empty_list, list, tail, empty_map, map as map_of, one_string, more_strings, one_term, more_terms, one_pair, more_pairs, AreForms, no_forms, more_forms, first_line}
+use Rattle.asm_text.proofs.ReadingLaws.{reading-spelled}
 
 -- ---- tokens and bytes
 
@@ -103,49 +103,48 @@ least_some (Term-F.Int i) = omega arith
 least_some (Term-F.Atom a) = omega arith
 least_some (Term-F.List parts end) = omega arith
 
-takes : (loose : Bool) (room : ℕ) (phrase : Phrase) (ts : List Lined) → Spells loose room phrase ts → Takes phrase ts
+takes : (phrase : Phrase) (ts : List Lined) → Spells phrase ts → Takes phrase ts
 unfolding Takes
-takes loose _ _ _ (integer room line n) = omega (arith, least-Int n)
-takes loose _ _ _ (atom room line a) = omega (arith, least-Atom a)
-takes loose _ _ _ (wide room line only) = omega (arith, least-Int (pos 0))
-takes loose _ _ _ (float room line only) = omega (arith, least-Int (pos 0))
-takes loose _ _ _ (strings room codes ts s) = let n = takes loose room (Strings codes) ts s in omega (arith, least-List codes None, n)
-takes loose _ _ _ (empty_tuple room line end) = omega (arith, least-Tuple [])
-takes loose _ _ _ (tuple room line end all ts s) =
-    let n = takes loose room (Terms all) ts s in omega (arith, least-Tuple all, n, length-append ts (at end k.CloseBrace ∷ []))
-takes loose _ _ _ (empty_list room line end) = omega (arith, least-List [] None)
-takes loose _ _ _ (list room line end all ts s) = omega (arith, least-List all None)
-takes loose _ _ _ (tail room line bar end all ts last us s r) = omega (arith, least_layer all last (out-Term last))
-takes loose _ _ _ (empty_map room line end only) = omega (arith, least-Int (pos 0))
-takes loose _ _ _ (map_of room line end ts only s) = omega (arith, least-Int (pos 0))
-takes loose _ _ _ (one_string room line codes) = omega arith
-takes loose _ _ _ (more_strings room line codes more ts s) = omega arith
-takes loose _ _ _ (one_term room term ts s) = let n = takes loose room (One term) ts s in omega (arith, n, least_some (out-Term term))
-takes loose _ _ _ (more_terms room line term ts all us s r) =
-    let n = takes loose room (One term) ts s in
-    let m = takes loose room (Terms all) us r in
-    omega (arith, n, m, least_some (out-Term term), length-append ts (at line k.Comma ∷ us))
-takes loose _ _ _ (one_pair room line key value ts us s r) = omega (arith, length-append ts (at line k.Arrow ∷ us))
-takes loose _ _ _ (more_pairs room line comma key value ts us vs s r q) = omega (arith, length-append ts (at line k.Arrow ∷ (us ++ at comma k.Comma ∷ vs)))
+takes _ _ (integer line n) = omega (arith, least-Int n)
+takes _ _ (atom line a) = omega (arith, least-Atom a)
+takes _ _ (wide line) = omega (arith, least-Int (pos 0))
+takes _ _ (float line) = omega (arith, least-Int (pos 0))
+takes _ _ (strings codes ts s) = let n = takes (Strings codes) ts s in omega (arith, least-List codes None, n)
+takes _ _ (empty_tuple line end) = omega (arith, least-Tuple [])
+takes _ _ (tuple line end all ts s) = let n = takes (Terms all) ts s in omega (arith, least-Tuple all, n, length-append ts (at end k.CloseBrace ∷ []))
+takes _ _ (empty_list line end) = omega (arith, least-List [] None)
+takes _ _ (list line end all ts s) = omega (arith, least-List all None)
+takes _ _ (tail line bar end all ts last us s r) = omega (arith, least_layer all last (out-Term last))
+takes _ _ (empty_map line end) = omega (arith, least-Int (pos 0))
+takes _ _ (map_of line end ts s) = omega (arith, least-Int (pos 0))
+takes _ _ (one_string line codes) = omega arith
+takes _ _ (more_strings line codes more ts s) = omega (arith, length-append ts (at line (k.Text more) ∷ []))
+takes _ _ (one_term term ts s) = let n = takes (One term) ts s in omega (arith, n, least_some (out-Term term))
+takes _ _ (more_terms line all ts term us s r) =
+    let n = takes (Terms all) ts s in
+    let m = takes (One term) us r in
+    omega (arith, n, m, least_some (out-Term term), length-append all (term ∷ []), length-append ts (at line k.Comma ∷ []), length-append (ts ++ at line k.Comma ∷ []) us)
+takes _ _ (one_pair line key value ts us s r) = omega (arith, length-append ts (at line k.Arrow ∷ []), length-append (ts ++ at line k.Arrow ∷ []) us)
+takes _ _ (more_pairs comma line key value ts us vs s r q) =
+    omega (arith, length-append ts (at comma k.Comma ∷ []), length-append (ts ++ at comma k.Comma ∷ []) ((us ++ at line k.Arrow ∷ []) ++ vs))
 
 -- the least tokens of forms: those of their terms, and the dots
 abbrev pub weight : List Form → ℕ
 weight [] = 0
 weight (form ∷ forms) = least form.term + 1 + weight forms
 
-form_takes : (term : Term) (ts : List Lined) → IsForm term ts → least term + 1 ≤ length ts
-unfolding Takes
-form_takes _ _ (strict_form term ts dot s) = let n = takes false 200 (One term) ts s in omega (arith, n, length-append ts (at dot k.Dot ∷ []))
-form_takes _ _ (loose_form brace percent comma end dot all ts s) =
-    let n = takes true 199 (Terms all) ts s in
-    omega (arith, n, least-Tuple (t.Atom (37 ∷ []) ∷ all), length-append ts (at end k.CloseBrace ∷ at dot k.Dot ∷ []))
+weight_more : (forms : List Form) (form : Form) → weight (forms ++ form ∷ []) ≡ weight forms + (least form.term + 1)
+weight_more [] form = omega arith
+weight_more (f ∷ forms) form = let n = weight_more forms form in omega (arith, n)
 
 forms_take : (forms : List Form) (ts : List Lined) → AreForms forms ts → weight forms ≤ length ts
+unfolding Takes
 forms_take _ _ no_forms = omega arith
-forms_take _ _ (more_forms term forms ts us s r) =
-    let n = form_takes term ts s in
-    let m = forms_take forms us r in
-    omega (arith, n, m, length-append ts us)
+forms_take _ _ (more_forms forms ts term us dot s r) =
+    let n = forms_take forms ts s in
+    let m = takes (One term) us r in
+    let w = weight_more forms (record { line = first_line us; term = term }) in
+    omega (arith, n, m, w, length-append us (at dot k.Dot ∷ []), length-append ts (us ++ at dot k.Dot ∷ []))
 
 -- a text has at least as many bytes as its forms have tokens
 pub forms_weigh : (text : List ℕ) (forms : List Form) → reading text ≡ Ok forms → weight forms ≤ length text
@@ -153,7 +152,7 @@ unfolding Many
 forms_weigh text forms e =
     let s = reading-spelled text forms e in
     let few : length s.0 ≤ length text = many_tokens text 0 1 1 s.0 s.1 s.2 in
-    omega (arith, few, forms_take forms s.0 s.3)
+    omega (arith, few, forms_take forms s.0 s.3.0)
 
 some_weight : (forms : List Form) → length forms ≤ weight forms
 some_weight [] = omega arith

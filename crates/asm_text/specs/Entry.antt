@@ -2,11 +2,11 @@
 -- (docs/TEXT.md, Entries).
 use Rattle.std.specs.Prelude.{ℕ, ◌==◌, if◌then◌else◌, List, [], ◌∷◌, drop, length, Option, Some, None, nat_eq}
 use Rattle.std.specs.Option.{option_map}
-use Rattle.asm_text.specs.declared.token.Token.{Token}
-use Rattle.asm_text.specs.declared.token.Token.TheVariants as k
-use Rattle.asm_text.specs.declared.token.Piece.{Piece}
-use Rattle.asm_text.specs.declared.token.Piece.TheVariants as p
-use Rattle.asm_text.specs.Pieces.{piece}
+use Rattle.text_tokens.specs.declared.token.Token.{Token}
+use Rattle.text_tokens.specs.declared.token.Token.TheVariants as k
+use Rattle.text_tokens.specs.declared.token.Piece.{Piece}
+use Rattle.text_tokens.specs.declared.token.Piece.TheVariants as p
+use Rattle.text_tokens.specs.Pieces.{piece}
 
 -- an atom with its size in bytes
 abbrev pub atom_token : Token → ℕ → Option (List ℕ × ℕ)

@@ -1,12 +1,4 @@
-pub mod Character
-pub mod Pieces
-pub mod Tokens
-pub mod Grammar
 pub mod Reading
-pub mod Found
-pub mod Class
-pub mod Progress
+pub mod Advance
 pub mod Canonical
-pub mod Spelling
 pub mod Entry
-pub mod InPlace

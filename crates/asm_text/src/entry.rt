@@ -1,16 +1,13 @@
 ghost use Rattle.std.specs.Prelude.{◌≡◌, ◌+◌, ◌<◌, ◌≤◌, ◌∷◌, [], length, drop, is_some, IfOk, IfSome, MatchOption};
 ghost use Rattle.std.specs.Option.{option_map};
 ghost use Rattle.term_tree.specs.Name.{characters_in};
-ghost use Rattle.asm_text.specs.Character as text;
-ghost use Rattle.asm_text.specs.Pieces as pieces;
+ghost use Rattle.text_tokens.specs.Character as text;
+ghost use Rattle.text_tokens.specs.Pieces as pieces;
 ghost use Rattle.asm_text.specs.Entry.{atom_piece, atom_at, function_after, whole_atom, entry_of};
 
-use crate::class::{Class, passes, run};
-use crate::escape::quoted_character;
-use crate::piece::piece;
-use crate::token::{Piece, Token};
 use std::alloc::{AllocError, Global};
 use term_tree::Name;
+use text_tokens::{Class, Piece, Token, passes, piece, quoted_character, run};
 
 /// The most characters of an atom (Erlang reference manual, Data Types, Atom).
 const MOST_CHARACTERS: usize = 255;

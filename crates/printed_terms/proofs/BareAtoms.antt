@@ -6,10 +6,10 @@ use Rattle.std.specs.List.{list_all}
 use Rattle.term_tree.proofs.TermLaws.{both_hold}
 use Rattle.term_tree.specs.Name.{characters_in}
 use Rattle.term_tree.specs.Text.{is_bare, is_small_letter, is_name_character}
-use Rattle.asm_text.specs.declared.token.Piece.TheVariants.{Whole}
-use Rattle.asm_text.specs.declared.token.Token.TheVariants as k
-use Rattle.asm_text.specs.Pieces.{piece, atom, bare_atom, is_digit, is_lower, is_separator, is_name_byte, is_no_line_feed}
-use Rattle.asm_text.specs.Tokens.{More, tokens}
+use Rattle.text_tokens.specs.declared.token.Piece.TheVariants.{Whole}
+use Rattle.text_tokens.specs.declared.token.Token.TheVariants as k
+use Rattle.text_tokens.specs.Pieces.{piece, atom, bare_atom, is_digit, is_lower, is_separator, is_name_byte, is_no_line_feed}
+use Rattle.text_tokens.specs.Tokens.{More, tokens}
 use Rattle.printed_terms.proofs.Lexing.{both_true, one_token, run-front, Stops}
 
 pub short_atom : (text : List ℕ) (size : ℕ) → characters_in text ≤ 255 → atom text size ≡ Whole (k.Atom text) size

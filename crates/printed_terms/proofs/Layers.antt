@@ -7,8 +7,9 @@ use Rattle.term_tree.specs.declared.term.Term.TheOpen.{Term-F}
 use denote.Hole.Carrier.{roll}
 use Rattle.term_tree.specs.Term.{is_list}
 use Rattle.term_tree.proofs.TermLaws.{term_ind, is_list-List}
-use Rattle.asm_text.specs.Grammar.{with_tail, with_layer}
-use Rattle.printed_terms.specs.Printable.{is_name, has_names, layer_names, depth_of, layer_depth, deepest}
+use Rattle.text_forms.specs.Spelling.{with_tail, with_layer}
+use Rattle.printed_terms.specs.Printable.{has_names, layer_names, depth_of, layer_depth, deepest}
+use Rattle.term_tree.specs.Name.{is_name}
 
 pub depth-proper : (all : List Term) → depth_of (t.List all None) ≡ 1 + max (deepest (map depth_of all)) 0
 unfolding roll-Term roll

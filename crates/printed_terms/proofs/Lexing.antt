@@ -2,13 +2,13 @@
 use Rattle.std.proofs.Common.{◌≡◌, ℕ, ◌+◌, ◌-◌, min, Bool, true, false, List, [], ◌∷◌, ◌++◌, length, refl, ap, ◌∙◌, arith, ◌&&◌, if◌then◌else◌, ◌==◌}
 use Rattle.std.specs.List.{list_all}
 use Rattle.term_tree.proofs.TermLaws.{both_hold}
-use Rattle.asm_text.specs.declared.token.Token.{Token}
-use Rattle.asm_text.specs.declared.token.Token.TheVariants as k
-use Rattle.asm_text.specs.declared.token.Piece.TheVariants.{Whole}
-use Rattle.asm_text.specs.Character.{is, begins, run}
-use Rattle.asm_text.specs.Pieces.{piece, mark, is_digit, is_name_byte, is_no_line_feed, begins_fraction}
-use Rattle.asm_text.specs.Tokens.{More, tokens, tokens_after, line_after, last_line}
-use Rattle.asm_text.proofs.Steps.{tokens-skip, tokens-whole}
+use Rattle.text_tokens.specs.declared.token.Token.{Token}
+use Rattle.text_tokens.specs.declared.token.Token.TheVariants as k
+use Rattle.text_tokens.specs.declared.token.Piece.TheVariants.{Whole}
+use Rattle.text_tokens.specs.Character.{is, begins, run}
+use Rattle.text_tokens.specs.Pieces.{piece, mark, is_digit, is_name_byte, is_no_line_feed, begins_fraction}
+use Rattle.text_tokens.specs.Tokens.{More, tokens, tokens_after, line_after, last_line}
+use Rattle.text_tokens.proofs.Fronts.{tokens-skip, tokens-whole}
 
 pub both_true : (a b : Bool) → a ≡ true → b ≡ true → a && b ≡ true
 both_true true b h e = e

@@ -3,5 +3,6 @@ pub mod Numbers
 pub mod BareAtoms
 pub mod QuotedAtoms
 pub mod Layers
+pub mod Allowed
 pub mod Written
 pub mod ReadBack

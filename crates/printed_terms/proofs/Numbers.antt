@@ -12,11 +12,11 @@ use Rattle.std.specs.Str.Parse.{AllDigits, digits_value_after}
 use borrow.Author.Tests.{ltb-true, lt-ltb}
 use Rattle.term_tree.proofs.TermLaws.{both_hold}
 use Rattle.term_tree.specs.Small.{is_small, small_limit}
-use Rattle.asm_text.specs.declared.token.Piece.TheVariants.{Whole}
-use Rattle.asm_text.specs.declared.token.Token.TheVariants as k
-use Rattle.asm_text.specs.Character.{is_digit_of, begins, number_after}
-use Rattle.asm_text.specs.Pieces.{piece, number, integer, is_digit, is_separator, is_no_line_feed}
-use Rattle.asm_text.specs.Tokens.{More, tokens}
+use Rattle.text_tokens.specs.declared.token.Piece.TheVariants.{Whole}
+use Rattle.text_tokens.specs.declared.token.Token.TheVariants as k
+use Rattle.text_tokens.specs.Character.{is_digit_of, begins, number_after}
+use Rattle.text_tokens.specs.Pieces.{piece, number, integer, is_digit, is_separator, is_no_line_feed}
+use Rattle.text_tokens.specs.Tokens.{More, tokens}
 use Rattle.printed_terms.proofs.Lexing.{both_true, one_token, run-front, Stops}
 
 -- the digits of a numeral, and its value, in the words of the reading

@@ -13,12 +13,12 @@ use borrow.Author.Tests.{lt-ltb, eqb-true}
 use Rattle.term_tree.proofs.TermLaws.{both_hold}
 use Rattle.term_tree.specs.Name.{characters_in}
 use Rattle.term_tree.specs.Text.{quoted_character as spelled}
-use Rattle.asm_text.specs.declared.token.Piece.TheVariants.{Whole}
-use Rattle.asm_text.specs.declared.token.Token.TheVariants as k
-use Rattle.asm_text.specs.Character.{is_digit_of, number_after, braced_escape, quoted_character, between_quotes}
-use Rattle.asm_text.specs.Pieces.{piece, atom, quoted, is_no_line_feed}
-use Rattle.asm_text.specs.Tokens.{More, tokens}
-use Rattle.asm_text.proofs.Quotes.{quotes-skip, quotes-more}
+use Rattle.text_tokens.specs.declared.token.Piece.TheVariants.{Whole}
+use Rattle.text_tokens.specs.declared.token.Token.TheVariants as k
+use Rattle.text_tokens.specs.Character.{is_digit_of, number_after, braced_escape, quoted_character, between_quotes}
+use Rattle.text_tokens.specs.Pieces.{piece, atom, quoted, is_no_line_feed}
+use Rattle.text_tokens.specs.Tokens.{More, tokens}
+use Rattle.text_tokens.proofs.Quotes.{quotes-skip, quotes-more}
 use Rattle.printed_terms.proofs.Lexing.{both_true, one_token, run-front}
 use Rattle.printed_terms.proofs.Numbers.{all_digits, same_value}
 use Rattle.printed_terms.proofs.BareAtoms.{short_atom}

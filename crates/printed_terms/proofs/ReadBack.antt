@@ -1,27 +1,30 @@
 -- What a term prints is read as that term.
-use Rattle.std.proofs.Common.{◌≡◌, ℕ, ◌≤◌, true, [], ◌∷◌, ◌++◌, Ok, sym, ap, ◌∙◌, subst}
+use Rattle.std.proofs.Common.{◌≡◌, ℕ, suc, ◌≤◌, true, [], ◌∷◌, ◌++◌, Ok, refl, sym, ap, ◌∙◌, subst, arith}
 use lib.Chars.{codes}
 use Rattle.term_tree.specs.declared.term.Term.{Term}
 use Rattle.term_tree.specs.Term.{tree_of, is_canonical}
 use Rattle.term_tree.specs.Text.{text_of}
-use Rattle.asm_text.specs.declared.stand.Form.{Form}
-use Rattle.asm_text.specs.declared.token.Token.TheVariants as k
+use Rattle.text_forms.specs.declared.form.Form.{Form}
+use Rattle.text_tokens.specs.declared.token.Token.TheVariants as k
+use Rattle.text_tokens.specs.Tokens.{More, Stop, tokens, at, lined}
+use Rattle.text_forms.specs.Spelling.{one_term, AreForms, no_forms, more_forms, some_arguments}
+use Rattle.text_forms.proofs.Readings.{lined-joined}
+use Rattle.text_forms.proofs.Reached.{allowed_joined}
 use Rattle.asm_text.specs.Reading.{reading, arguments}
-use Rattle.asm_text.specs.Spelling.{at, lined, one_term, strict_form, AreForms, no_forms, more_forms, some_arguments}
-use Rattle.asm_text.specs.Tokens.{More, Stop, tokens}
-use Rattle.asm_text.proofs.Written.{lined-joined, reading-written, arguments-written}
+use Rattle.asm_text.proofs.ReadingLaws.{reading-written, arguments-written}
 use Rattle.printed_terms.specs.Printable.{has_names, depth_of}
 use Rattle.printed_terms.proofs.Lexing.{stops_bracket, stops_dot, list_token, bracket_token, dot_token}
+use Rattle.printed_terms.proofs.Allowed.{list_allows}
 use Rattle.printed_terms.proofs.Written.{written}
 
 pub in_brackets : (x : Term) → is_canonical x ≡ true → has_names x ≡ true → depth_of x ≤ 199 → arguments (codes "[" ++ text_of (tree_of x) ++ codes "]") ≡ Ok (x ∷ [])
 in_brackets x c n d =
-    let w = written x 199 c n d in
+    let w = written x c n in
     let is : tokens (91 ∷ (text_of (tree_of x) ++ 93 ∷ [])) ≡ lined (at 1 k.OpenList ∷ (w.ts ++ at 1 k.CloseBracket ∷ [])) (Stop 1) =
     list_token (text_of (tree_of x) ++ 93 ∷ [])
     ∙ ap (More 1 k.OpenList) (w.reads (93 ∷ []) (stops_bracket []) ∙ ap (lined w.ts) (bracket_token []) ∙ sym (lined-joined w.ts (at 1 k.CloseBracket ∷ []) (Stop 1))) in
     arguments-written (91 ∷ (text_of (tree_of x) ++ 93 ∷ [])) (x ∷ [])
-    (at 1 k.OpenList ∷ (w.ts ++ at 1 k.CloseBracket ∷ []), 1, is, some_arguments 1 1 (x ∷ []) w.ts (one_term 199 x w.ts w.spells))
+    (at 1 k.OpenList ∷ (w.ts ++ at 1 k.CloseBracket ∷ []), 1, is, (some_arguments 1 1 (x ∷ []) w.ts (one_term x w.ts w.spells), (list_allows (depth_of x) (suc (depth_of x)) w.ts (omega arith) w.allows [] (omega arith)).fine))
 
 -- the one form of a text in the first line
 abbrev form_of : ℕ → Term → Form
@@ -29,12 +32,12 @@ form_of line x = record { line = line; term = x }
 
 pub before_dot : (x : Term) → is_canonical x ≡ true → has_names x ≡ true → depth_of x ≤ 200 → reading (text_of (tree_of x) ++ codes ".") ≡ Ok (form_of 1 x ∷ [])
 before_dot x c n d =
-    let w = written x 200 c n d in
-    let is : tokens (text_of (tree_of x) ++ 46 ∷ []) ≡ lined ((w.ts ++ at 1 k.Dot ∷ []) ++ []) (Stop 1) =
-    w.reads (46 ∷ []) stops_dot ∙ ap (lined w.ts) dot_token ∙ sym (lined-joined w.ts (at 1 k.Dot ∷ []) (Stop 1)) ∙ sym (lined-joined (w.ts ++ at 1 k.Dot ∷ []) [] (Stop 1)) in
-    let P : ℕ → Type 0 = λ line. AreForms (form_of line x ∷ []) ((w.ts ++ at 1 k.Dot ∷ []) ++ []) in
-    let forms : P 1 = subst P (w.first (at 1 k.Dot ∷ [])) (more_forms x [] (w.ts ++ at 1 k.Dot ∷ []) [] (strict_form x w.ts 1 w.spells) no_forms) in
-    reading-written (text_of (tree_of x) ++ 46 ∷ []) (form_of 1 x ∷ []) ((w.ts ++ at 1 k.Dot ∷ []) ++ [], 1, is, forms)
+    let w = written x c n in
+    let is : tokens (text_of (tree_of x) ++ 46 ∷ []) ≡ lined (w.ts ++ at 1 k.Dot ∷ []) (Stop 1) =
+    w.reads (46 ∷ []) stops_dot ∙ ap (lined w.ts) dot_token ∙ sym (lined-joined w.ts (at 1 k.Dot ∷ []) (Stop 1)) in
+    let P : ℕ → Type 0 = λ line. AreForms (form_of line x ∷ []) (w.ts ++ at 1 k.Dot ∷ []) in
+    let forms : P 1 = subst P w.first (more_forms [] [] x w.ts 1 no_forms w.spells) in
+    reading-written (text_of (tree_of x) ++ 46 ∷ []) (form_of 1 x ∷ []) (w.ts ++ at 1 k.Dot ∷ [], 1, is, (forms, allowed_joined [] w.ts (at 1 k.Dot ∷ []) (w.allows [] (omega arith)).fine (refl, tt)))
 
 -- two terms with one text are one term
 pub one_text : (x y : Term) → is_canonical x ≡ true → is_canonical y ≡ true → has_names x ≡ true → has_names y ≡ true → depth_of x ≤ 200 → depth_of y ≤ 200

@@ -1,14 +1,10 @@
 -- Which terms have a text that is read back (docs/TEXT.md): how deep their brackets nest, and what their atoms are.
-use Rattle.std.specs.Prelude.{ℕ, ◌+◌, max, Bool, true, ◌&&◌, nat_le, List, [], ◌∷◌, Option, Some, None}
+use Rattle.std.specs.Prelude.{ℕ, ◌+◌, ◌≤◌, max, Bool, true, ◌&&◌, List, [], ◌∷◌, Option, Some, None, IsTrue}
 use Rattle.std.specs.List.{list_all}
-use Rattle.std.specs.Str.{is_utf8}
 use Rattle.term_tree.specs.declared.term.Term.{Term, fold-Term}
 use Rattle.term_tree.specs.declared.term.Term.TheOpen.{Term-F}
-use Rattle.term_tree.specs.Name.{characters_in}
-
--- the text of an atom: UTF-8, and at most 255 characters
-abbrev pub is_name : List ℕ → Bool
-is_name bytes = is_utf8 bytes && nat_le (characters_in bytes) 255
+use Rattle.term_tree.specs.Name.{is_name}
+use Rattle.term_tree.specs.Term.{is_canonical}
 
 -- whether what a list ends in passes, if it ends in something
 abbrev pub end_passes : Option Bool → Bool
@@ -45,3 +41,9 @@ layer_depth (Term-F.Tuple all) = 1 + deepest all
 -- how deep the brackets of a term nest
 abbrev pub depth_of : Term → ℕ
 depth_of x = fold-Term ℕ layer_depth x
+
+-- a canonical term whose atoms are names and whose brackets nest at most so deep
+pub record IsPrintable (most : ℕ) (x : Term) : Type 0 where
+  pub canonical : IsTrue (is_canonical x)
+  pub names : IsTrue (has_names x)
+  pub depth : depth_of x ≤ most

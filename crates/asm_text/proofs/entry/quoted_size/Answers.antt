@@ -1,5 +1,5 @@
 use Rattle.std.proofs.Common.{◌+◌, length, []}
-use Rattle.asm_text.specs.Character.{between_quotes}
+use Rattle.text_tokens.specs.Character.{between_quotes}
 use Rattle.asm_text.proofs.AtomSizes.{quoted-size}
 use Rattle.asm_text.proofs.entry.quoted_size.Goals as goal
 

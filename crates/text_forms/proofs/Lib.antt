@@ -1,0 +1,9 @@
+pub mod Follow
+pub mod Written
+pub mod Here
+pub mod Tracks
+pub mod Reached
+pub mod Leading
+pub mod Roots
+pub mod Readings
+pub mod Canonical

@@ -1,0 +1,9 @@
+pub mod Runs
+pub mod Quotes
+pub mod Bytes
+pub mod Integers
+pub mod CanonicalLists
+pub mod Fronts
+pub mod Scalars
+pub mod CanonicalTokens
+pub mod CutLaws
