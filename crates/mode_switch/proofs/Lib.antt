@@ -1,5 +1,6 @@
 pub mod Spots
 pub mod Loadable
-pub mod Plain
+pub mod Native
 pub mod Runs
 pub mod Starts
+pub mod Places

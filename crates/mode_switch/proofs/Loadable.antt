@@ -2,16 +2,15 @@
 use Rattle.std.proofs.Common.{◌≡◌, ℕ, Bool, true, false, ◌&&◌, nat_eq, if◌then◌else◌, refl, ◌+◌, ◌*◌, ◌≤◌, List, [], ◌∷◌, ◌++◌, length, map, ap, subst, sym, ◌∙◌, arith}
 use Rattle.std.specs.List.{AllByRecursion}
 use Rattle.std.specs.Prelude.{Option, Some, None}
-use Rattle.std.specs.Option.{option_map}
 use Rattle.std.proofs.lemmas.Bool.{eqb-true}
 use Rattle.beam_code.specs.Function.{Placed, all_functions, items_in, same_name, is_exported, exports_of, number_of, exported_number}
 use Rattle.beam_code.specs.declared.module.Function.{Function}
 use Rattle.beam_code.specs.declared.module.Module.{Module}
-use Rattle.mode_switch.specs.Start.{EntersItems, IsLoadable}
+use Rattle.mode_switch.specs.Lookup.{EntersItems, IsLoadable}
 use Rattle.native_link.specs.Fitting.{total_length}
 use Rattle.native_link.specs.Image.{AreReadings}
-use Rattle.native_link.specs.declared.limits.TheConstants.{MOST_TEXT_BYTES}
-use Rattle.asm_text.specs.declared.stand.Form.{Form}
+use Rattle.beam_code.specs.declared.module.TheConstants.{MOST_TEXT_BYTES}
+use Rattle.text_forms.specs.declared.form.Form.{Form}
 use Rattle.plain_text.proofs.Answering.{plain_few}
 use Rattle.plain_text.specs.Module.{export_of, functions_of}
 use Rattle.plain_text.specs.Reading.{IsPlainText}
@@ -81,15 +80,15 @@ all_no_args (t ∷ ts) (x ∷ ms) m f n r e =
     (λ h. exports_no_args f n r.0.plain.constants (ap (λ es. is_exported f n es) (sym (ap (λ y. y.exports) r.0.is)) ∙ h))
     (λ h. all_no_args ts ms m f n r.1 h) (same_name m x.name) e
 
-number_no_args : (n : ℕ) (number : Option ℕ) → (a : Bool) → (a ≡ true → n ≡ 0) → (g : ℕ → ℕ) (entry : ℕ) → Some entry ≡ option_map g (if a then number else None) → n ≡ 0
-number_no_args n number true h g entry e = h refl
-number_no_args n number false h g entry e = absurd cc
+number_no_args : (n : ℕ) (number : Option ℕ) → (a : Bool) → (a ≡ true → n ≡ 0) → (function : ℕ) → (if a then number else None) ≡ Some function → n ≡ 0
+number_no_args n number true h function e = h refl
+number_no_args n number false h function e = absurd cc
 
 nil_of : {A : Type 0} (xs : List A) → length xs ≡ 0 → xs ≡ []
 nil_of [] e = refl
 nil_of (x ∷ xs) e = absurd (omega (arith, e))
 
-pub call_no_args : {A : Type 0} (ts : List (List ℕ)) (ms : List Module) (m f : List ℕ) (args : List A) (g : ℕ → ℕ) (entry : ℕ) → AreReadings ts ms →
-    Some entry ≡ option_map g (exported_number ms m f (length args)) → args ≡ []
-call_no_args ts ms m f args g entry r e =
-    nil_of args (number_no_args (length args) (number_of ms m f (length args)) (is_exported f (length args) (exports_of ms m)) (λ h. all_no_args ts ms m f (length args) r h) g entry e)
+pub call_no_args : {A : Type 0} (ts : List (List ℕ)) (ms : List Module) (m f : List ℕ) (args : List A) (function : ℕ) → AreReadings ts ms →
+    exported_number ms m f (length args) ≡ Some function → args ≡ []
+call_no_args ts ms m f args function r e =
+    nil_of args (number_no_args (length args) (number_of ms m f (length args)) (is_exported f (length args) (exports_of ms m)) (λ h. all_no_args ts ms m f (length args) r h) function e)

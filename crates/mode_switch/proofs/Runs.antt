@@ -1,9 +1,11 @@
 -- A run by steps: what a step leaves runs to where the whole runs to.
-use Rattle.std.proofs.Common.{◌≡◌, ℕ, suc, ◌+◌, ◌-◌, ◌^◌, ◌≤◌, ◌<◌, ◌∙◌, [], ap, sym, subst, refl, arith}
-use Rattle.std.specs.Prelude.{Some, None}
-use Rattle.mode_switch.specs.Machine.{Progress, Ran, answered, one_more, ran, ran_for, ran_to, ran_with, steps_taken, taken_after, after_step, answer_of, stepped, stepped_with, step_answer, step_answer_with}
-use Rattle.mode_switch.specs.Run.{bound, first_state, full_step, mixed_run}
-use Rattle.mode_switch.specs.Start.{opened}
+use Rattle.std.proofs.Common.{◌≡◌, ℕ, List, suc, ◌+◌, ◌-◌, ◌^◌, ◌≤◌, ◌<◌, ◌∙◌, ap, sym, subst, refl, arith}
+use Rattle.std.specs.Prelude.{Option, Some, None}
+use Rattle.mode_switch.specs.Call.{Call, loaded, run_of, start}
+use Rattle.beam_code.specs.declared.module.Module.{Module}
+use Rattle.native_link.specs.declared.parts.Parts.{Parts}
+use Rattle.mode_switch.specs.Machine.{Progress, Ran, answered, finish_of, opened, one_more, ran, ran_for, ran_to, ran_with, steps_taken, taken_after, after_step, answer_of, stepped, stepped_with, step_answer, step_answer_with}
+use Rattle.mode_switch.specs.Run.{bound, full_step, mixed_run}
 use Rattle.mode_switch.specs.State.{Finish, Loaded, MixedState}
 use Rattle.mode_switch.specs.declared.outcome.Outcome.{Outcome}
 use Rattle.mode_switch.specs.declared.outcome.Outcome.TheVariants.{Ended}
@@ -95,15 +97,28 @@ run_spent p b going e le =
     ∙ ap (λ k. over_with (record { loaded = p.loaded; state = p.state; outcome = None; steps = k }) (Ended StepsSpent)) as_is
     ∙ ap (λ k. over_with (record { loaded = p.loaded; state = p.state; outcome = k; steps = p.steps }) (Ended StepsSpent)) (sym going))
 
--- the answer of a run from the start of a call is that of a run of as many steps as the bound
-answer_to : (p : Progress) (steps : ℕ) (x : Stage MixedState Finish) → (ran_to p steps x).answer ≡ answered x
+-- a run from the start of a call ends as a run of as many steps as the bound
+answer_to : (p : Progress) (steps : ℕ) (x : Stage MixedState Finish) → answered (ran_to p steps x) ≡ finish_of x
 answer_to p steps (Still s) = refl
 answer_to p steps (Done f) = refl
 
 less_none : (n : ℕ) → n - 0 ≡ n
 less_none n = omega arith
 
-pub answer_opened : (g : Loaded) (fid : ℕ) → (ran (opened g fid)).answer ≡ answered (mixed_run g (bound g) (first_state g fid [] []))
-answer_opened g fid =
-    answer_to (opened g fid) (0 + steps_taken (full_step g) (bound g - 0) (first_state g fid [] [])) (mixed_run g (bound g - 0) (first_state g fid [] []))
-    ∙ ap (λ n. answered (mixed_run g n (first_state g fid [] []))) (less_none (bound g))
+pub finish_opened : (ms : List Module) (parts : Parts) (call : Call) → answered (ran (opened ms parts call)) ≡ finish_of (run_of (loaded ms parts call) call (bound (loaded ms parts call)))
+finish_opened ms parts call =
+    let g : Loaded = loaded ms parts call in
+    answer_to (opened ms parts call) (0 + steps_taken (full_step g) (bound g - 0) (start g call)) (mixed_run g (bound g - 0) (start g call))
+    ∙ ap (λ n. finish_of (mixed_run g n (start g call))) (less_none (bound g))
+
+-- what stays as it is stays in a run
+loaded_to : (p : Progress) (steps : ℕ) (x : Stage MixedState Finish) → (ran_to p steps x).progress.loaded ≡ p.loaded
+loaded_to p steps (Still s) = refl
+loaded_to p steps (Done f) = refl
+
+loaded_with : (p : Progress) (o : Option Outcome) → (ran_with p o).progress.loaded ≡ p.loaded
+loaded_with p None = loaded_to p (p.steps + steps_taken (full_step p.loaded) (bound p.loaded - p.steps) p.state) (mixed_run p.loaded (bound p.loaded - p.steps) p.state)
+loaded_with p (Some o) = refl
+
+pub loaded_stays : (p : Progress) → (ran p).progress.loaded ≡ p.loaded
+loaded_stays p = loaded_with p p.outcome

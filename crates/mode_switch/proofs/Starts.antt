@@ -1,39 +1,34 @@
 -- Where a call begins.
-use Rattle.std.proofs.Common.{◌≡◌, ℕ, ◌+◌, ◌-◌, ◌*◌, ◌^◌, ◌<◌, ◌≤◌, Bool, true, false, if◌then◌else◌, List, [], ◌∷◌, length, take, ap, sym, refl, ◌∙◌, arith, replicate}
+use Rattle.std.proofs.Common.{◌≡◌, ℕ, ◌+◌, ◌*◌, ◌^◌, ◌<◌, ◌≤◌, Bool, true, false, if◌then◌else◌, List, [], ◌∷◌, length, take, ap, sym, refl, ◌∙◌, arith, subst}
 use Rattle.std.specs.List.{AllByRecursion}
-use Rattle.std.specs.Prelude.{Option, Some, None, slice_get, nat_eq}
+use Rattle.std.specs.Prelude.{Option, Some, None, slice_get}
 use Rattle.std.specs.Option.{option_map}
 use Rattle.beam_code.specs.Function.{Placed, all_functions, exported_number, exports_of, function_at, is_exported, is_named, items_in, number_of}
+use Rattle.beam_code.specs.declared.call.Limits.{Limits}
 use Rattle.beam_code.specs.declared.module.Module.{Module}
 use Rattle.mode_switch.proofs.Spots.{Stands, stands, stands_nowhere}
 use Rattle.mode_switch.specs.Lookup.{spot_from}
-use Rattle.mode_switch.specs.Machine.{Progress}
-use Rattle.mode_switch.specs.Place.{code_start, entry_address, item_entry, item_start, native_first}
-use Rattle.mode_switch.specs.Run.{first_state}
-use Rattle.mode_switch.specs.Start.{EntersItems, IsLoadable, IsOpenedAt, entry_at, started}
-use Rattle.mode_switch.specs.State.{Loaded}
+use Rattle.mode_switch.proofs.Loadable.{call_no_args}
+use Rattle.mode_switch.specs.declared.addresses.TheConstants.{ITEM_START, MOST_REDUCTIONS}
+use Rattle.mode_switch.specs.declared.opening.Start.{Start}
+use Rattle.mode_switch.specs.Call.{call_of}
+use Rattle.mode_switch.specs.Destination.{entry_address, item_entry}
+use Rattle.mode_switch.specs.Lookup.{EntersItems, IsLoadable, entry_at}
+use Rattle.mode_switch.specs.Junk.{IsPlaceIn}
+use Rattle.mode_switch.specs.Machine.{IsOpened, IsRunnable, Progress, opened}
+use Rattle.mode_switch.specs.Opening.{IsStart, opening}
 use Rattle.mode_switch.specs.declared.lookup.Spot.{Spot}
-use Rattle.native_link.specs.Fitting.{IsFitting, NativeFits, Turn, after_native, first_turn, total_count}
-use Rattle.native_link.specs.Follow.{Follow}
+use Rattle.native_link.proofs.Lookups.{first_within}
+use Rattle.native_link.specs.Fitting.{IsFitting, first_turn}
+use Rattle.native_link.specs.Image.{AreReadings}
 use Rattle.native_link.specs.Lookup.{native_entry_of, native_of, entry_address as native_address}
 use Rattle.native_link.specs.declared.parts.Native.{Native}
 use Rattle.native_link.specs.declared.parts.Parts.{Parts}
-use Rattle.tagged_words.specs.Store.{heap_start}
+use Rattle.term_tree.specs.declared.term.Term.{Term}
 
--- the address of a first code word, if there is one; and that or else an item's
-abbrev address_of_word : Option ℕ → Option ℕ
-address_of_word o = elim o [ None ↦ None | Some first ↦ Some (code_start + 4 * first) ]
-
+-- an address, or else an item's
 abbrev or_item : Option ℕ → ℕ → ℕ
 or_item o item = elim o [ None ↦ item | Some at ↦ at ]
-
-same_if : (b : Bool) (n : Native) (first : Option ℕ) (native : Option Native) → address_of_word first ≡ option_map native_address native → address_of_word (if b then Some n.first else first) ≡ option_map native_address (if b then Some n else native)
-same_if true n first native e = refl
-same_if false n first native e = e
-
-same_entry : (ns : List Native) (fid : ℕ) → address_of_word (native_first ns fid) ≡ native_entry_of ns fid
-same_entry [] fid = refl
-same_entry (n ∷ ns) fid = same_if (nat_eq n.fid fid) n (native_first ns fid) (native_of ns fid) (same_entry ns fid)
 
 by_native : (native : Option ℕ) (item : ℕ) (s : Spot) → item ≡ entry_at None s → or_item native item ≡ entry_at native s
 by_native None item s e = e
@@ -47,11 +42,10 @@ item_at ms test s st =
     ap (item_entry ms s.number) there ∙ omega (arith, first, st.entry)
 
 -- the entry of the function at a spot
-pub spot_entry : (g : Loaded) (test : Placed → Bool) (s : Spot) → spot_from test 0 0 (all_functions g.modules) ≡ Some s → entry_address g s.number ≡ entry_at (native_entry_of g.parts.natives s.number) s
-spot_entry g test s e =
-    ap (λ k. or_item k (item_entry g.modules s.number (function_at g.modules s.number))) (same_entry g.parts.natives s.number)
-    ∙ by_native (native_entry_of g.parts.natives s.number) (item_entry g.modules s.number (function_at g.modules s.number)) s
-    (item_at g.modules test s (stands test 0 0 (all_functions g.modules) s e))
+pub spot_entry : (ms : List Module) (natives : List Native) (test : Placed → Bool) (s : Spot) → spot_from test 0 0 (all_functions ms) ≡ Some s → entry_address ms natives s.number ≡ entry_at (native_entry_of natives s.number) s
+spot_entry ms natives test s e =
+    by_native (native_entry_of natives s.number) (item_entry ms s.number (function_at ms s.number)) s
+    (item_at ms test s (stands test 0 0 (all_functions ms) s e))
 
 none_is_some : {A : Type 0} {s : A} (x : Option A) → x ≡ None → x ≡ Some s → ⊥
 none_is_some x e e' = cc
@@ -70,23 +64,10 @@ within_items test k first [] s all e = absurd (none_is_some None refl e)
 within_items test k first (p ∷ ps) s all e =
     within_if (test p) test k first p ps s all.0 (within_items test (k + 1) (first + length p.function.items) ps s all.1) e
 
--- native code lies within the code words
-before_if : (b : Bool) (n m : Native) (place count : ℕ) (rest : Option Native) → n.first ≡ place → (rest ≡ Some m → m.first ≤ place + n.count + count) → (if b then Some n else rest) ≡ Some m → m.first ≤ place + (n.count + count)
-before_if true n m place count rest here later e =
-    let same : n.first ≡ m.first = ap (λ o. elim o [ None ↦ n.first | Some x ↦ x.first ]) e in
-    omega (arith, same, here)
-before_if false n m place count rest here later e = omega (arith, later e)
-
-native_within : (turn : Turn) (ns : List Native) (fid : ℕ) (m : Native) → Follow NativeFits after_native turn ns → native_of ns fid ≡ Some m → m.first ≤ turn.place + total_count ns
-native_within turn [] fid m all e = absurd (none_is_some None refl e)
-native_within turn (n ∷ ns) fid m all e =
-    before_if (nat_eq n.fid fid) n m turn.place (total_count ns) (native_of ns fid) all.0.place
-    (λ rest. omega (arith, native_within (after_native turn n) ns fid m all.1 rest, all.0.place)) e
-
-native_fits : (parts : Parts) (fid : ℕ) (native : Option Native) (s : Spot) → IsFitting parts → native_of parts.natives fid ≡ native → item_start + 4 * (s.first + s.entry) + 4 < 2 ^ 32 → entry_at (option_map native_address native) s + 4 < 2 ^ 32
+native_fits : (parts : Parts) (fid : ℕ) (native : Option Native) (s : Spot) → IsFitting parts → native_of parts.natives fid ≡ native → ITEM_START + 4 * (s.first + s.entry) + 4 < 2 ^ 32 → entry_at (option_map native_address native) s + 4 < 2 ^ 32
 native_fits parts fid None s fitting e item = item
 native_fits parts fid (Some m) s fitting e item =
-    omega (arith, native_within first_turn parts.natives fid m fitting.native_places e, fitting.code, fitting.code_of_natives)
+    omega (arith, first_within first_turn parts.natives fid m fitting.native_places e, fitting.code, fitting.code_of_natives)
 
 -- the entry at a spot, and the address behind it, are words
 pub entry_fits : (ms : List Module) (parts : Parts) (test : Placed → Bool) (s : Spot) → IsFitting parts → IsLoadable ms → spot_from test 0 0 (all_functions ms) ≡ Some s → entry_at (native_entry_of parts.natives s.number) s + 4 < 2 ^ 32
@@ -94,18 +75,62 @@ entry_fits ms parts test s fitting loadable e =
     native_fits parts s.number (native_of parts.natives s.number) s fitting refl
     (omega (arith, within_items test 0 0 (all_functions ms) s loadable.entries e, loadable.items))
 
--- the state at the start of a call without arguments
-pub starts : (g : Loaded) (fid : ℕ) → started g.limits (entry_address g fid) ≡ first_state g fid [] []
-starts g fid =
-    let whole : g.limits.heap ≡ g.limits.heap - 0 = omega arith in
-    ap (λ k. record (started g.limits (entry_address g fid)) { heap = record { start = heap_start; words = replicate k 0 } }) whole
+-- what begins at the entry of a function is what its call begins with
+pub starts_at : (ms : List Module) (parts : Parts) (limits : Limits) (exported : Option ℕ) (entry : ℕ) (s : Start) → Some entry ≡ option_map (entry_address ms parts.natives) exported → s ≡ opening ms parts limits entry →
+    IsStart ms parts limits exported s
+starts_at ms parts limits None entry s e is = cc
+starts_at ms parts limits (Some function) entry s e is =
+    let same : entry ≡ entry_address ms parts.natives function = cc in
+    is ∙ ap (opening ms parts limits) same
 
-pub opened_by : (g : Loaded) (number : Option ℕ) (entry : ℕ) (p : Progress) → Some entry ≡ option_map (entry_address g) number → p ≡ record { loaded = g; state = started g.limits entry; outcome = None; steps = 0 } → IsOpenedAt g number p
-opened_by g None entry p here e = cc
-opened_by g (Some fid) entry p here e =
-    let same : entry ≡ entry_address g fid = cc in
-    e ∙ ap (λ k. record { loaded = g; state = started g.limits k; outcome = None; steps = 0 }) same
-    ∙ ap (λ k. record { loaded = g; state = k; outcome = None; steps = 0 }) (starts g fid)
+-- what a call begins with, by the number of its function
+record Begins (ms : List Module) (parts : Parts) (limits : Limits) (exported : Option ℕ) (s : Start) : Type 0 where
+  function : ℕ
+  is_exported : exported ≡ Some function
+  is : s ≡ opening ms parts limits (entry_address ms parts.natives function)
+
+begins : (ms : List Module) (parts : Parts) (limits : Limits) (exported : Option ℕ) (s : Start) → IsStart ms parts limits exported s → Begins ms parts limits exported s
+begins ms parts limits None s h = absurd h
+begins ms parts limits (Some function) s h = record { function = function; is_exported = refl; is = h }
+
+-- a call of a function of modules that were read has no arguments
+pub start_no_args : (ts : List (List ℕ)) (ms : List Module) (parts : Parts) (limits : Limits) (owner name : List ℕ) (args : List Term) (s : Start) → AreReadings ts ms →
+    IsStart ms parts limits (exported_number ms owner name (length args)) s → args ≡ []
+start_no_args ts ms parts limits owner name args s read h =
+    let b : Begins ms parts limits (exported_number ms owner name (length args)) s = begins ms parts limits (exported_number ms owner name (length args)) s h in
+    call_no_args ts ms owner name args b.function read b.is_exported
+
+-- and the machine keeps it true that its run has an end
+pub runnable : (ms : List Module) (parts : Parts) (limits : Limits) (junk : List ℕ) (exported : Option ℕ) (s : Start) → IsFitting parts → IsLoadable ms → limits.reductions ≤ MOST_REDUCTIONS → junk ≡ [] →
+    IsStart ms parts limits exported s → IsRunnable ms parts limits junk s.items s.hardware.place s.atoms
+runnable ms parts limits junk None s fitting loadable reductions none h = absurd h
+runnable ms parts limits junk (Some function) s fitting loadable reductions none h =
+    let P : Start → Type 0 = λ x. IsRunnable ms parts limits junk x.items x.hardware.place x.atoms in
+    let Q : List ℕ → Type 0 = λ j. IsPlaceIn j 0 in
+    subst P (sym h) (record {
+      counted = refl;
+      few_items = loadable.items;
+      code = fitting.code;
+      reductions = reductions;
+      no_junk = none;
+      place = subst Q (sym none) refl;
+      names = refl;
+    })
+
+abbrev pub progress_of : List Module → Parts → Limits → List ℕ → Start → Progress
+progress_of ms parts limits junk s =
+    record { loaded = record { modules = ms; parts = parts; limits = limits; names = s.atoms; junk = junk }; state = s.hardware; outcome = None; steps = 0 }
+
+-- a machine that begins so is opened for the call
+pub opened_by : (ms : List Module) (parts : Parts) (limits : Limits) (junk : List ℕ) (owner name : List ℕ) (args : List Term) (s : Start) → args ≡ [] →
+    IsStart ms parts limits (exported_number ms owner name (length args)) s → IsOpened ms parts owner name args limits junk (progress_of ms parts limits junk s)
+opened_by ms parts limits junk owner name args s none h =
+    let b : Begins ms parts limits (exported_number ms owner name (length args)) s = begins ms parts limits (exported_number ms owner name (length args)) s h in
+    record {
+      function = b.function;
+      exported = b.is_exported;
+      is = ap (progress_of ms parts limits junk) b.is ∙ ap (λ a. opened ms parts (call_of b.function a limits junk)) (sym none);
+    }
 
 -- the number of an exported function that stands at a spot, or none
 pub exported_at : (ms : List Module) (m f : List ℕ) (a : ℕ) (s : Spot) → is_exported f a (exports_of ms m) ≡ true → spot_from (is_named m f a) 0 0 (all_functions ms) ≡ Some s → exported_number ms m f a ≡ Some s.number

@@ -1,11 +1,13 @@
 pub mod State
 pub mod Memory
-pub mod Place
+pub mod Stores
+pub mod Destination
 pub mod Step
 pub mod Junk
 pub mod Run
 pub mod Lookup
-pub mod Reach
+pub mod Call
+pub mod Opening
 pub mod Machine
-pub mod Start
 pub mod Text
+pub mod Numbers

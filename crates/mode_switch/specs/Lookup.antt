@@ -1,8 +1,12 @@
 -- Where a function stands: its number, how many items are before it, and its entry (docs/BEAM.md, Functions).
-use Rattle.std.specs.Prelude.{ℕ, ◌+◌, ◌&&◌, Bool, Option, Some, None, List, [], ◌∷◌, length, nat_eq, if◌then◌else◌}
-use Rattle.beam_code.specs.Function.{Placed, same_name}
+use Rattle.std.specs.Prelude.{ℕ, ◌+◌, ◌≤◌, ◌<◌, ◌^◌, ◌&&◌, Bool, Option, Some, None, List, [], ◌∷◌, length, nat_eq, if◌then◌else◌}
+use Rattle.std.specs.List.{AllByRecursion}
+use Rattle.beam_code.specs.Function.{Placed, all_functions, items_of, same_name}
 use Rattle.beam_code.specs.declared.module.Function.{Function}
+use Rattle.beam_code.specs.declared.module.Module.{Module}
+use Rattle.mode_switch.specs.declared.addresses.TheConstants.{MOST_ITEMS}
 use Rattle.mode_switch.specs.declared.lookup.Spot.{Spot}
+use Rattle.mode_switch.specs.Destination.{item_address}
 
 -- how many items these functions have together
 abbrev pub length_sum : List Function → ℕ
@@ -22,3 +26,18 @@ spot_among name arity number first [] = None
 spot_among name arity number first (f ∷ fs) =
     if same_name name f.name && nat_eq arity f.arity then Some (record { number = number; first = first; entry = f.entry })
     else spot_among name arity (number + 1) (first + length f.items) fs
+
+-- the entry of the function that stands at a spot: its native one, where there is one
+abbrev pub entry_at : Option ℕ → Spot → ℕ
+entry_at None spot = item_address (spot.first + spot.entry)
+entry_at (Some at) spot = at
+
+-- the entry of a function is one of its items, or lies behind them
+abbrev pub EntersItems : Placed → Type 0
+EntersItems p = p.function.entry ≤ length p.function.items
+
+-- functions, items and entries have numbers
+pub record IsLoadable (modules : List Module) : Type 0 where
+  pub functions : length (all_functions modules) < 2 ^ 32
+  pub items : items_of modules ≤ MOST_ITEMS
+  pub entries : AllByRecursion EntersItems (all_functions modules)

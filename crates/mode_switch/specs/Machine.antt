@@ -1,12 +1,16 @@
 -- How far a call on the machine has come, and what its steps and its run make of that (docs/MACHINE.md, Runs).
 use Rattle.std.specs.Prelude.{ℕ, ◌≡◌, zero, suc, ◌+◌, ◌-◌, ◌^◌, ◌≤◌, Option, Some, None, Result, Ok, Err, List, [], length, min}
+use Rattle.beam_code.specs.Function.{exported_number}
+use Rattle.mode_switch.specs.Call.{Call, call_of, loaded, start}
+use Rattle.mode_switch.specs.Junk.{IsPlaceIn}
+use Rattle.term_tree.specs.declared.term.Term.{Term}
 use Rattle.small_step.specs.Stage.{Stage, Still, Done}
 use Rattle.beam_code.specs.Function.{items_of}
 use Rattle.beam_code.specs.declared.call.Limits.{Limits}
 use Rattle.beam_code.specs.declared.module.Module.{Module}
 use Rattle.native_link.specs.declared.limits.TheConstants.{MOST_CODE}
 use Rattle.native_link.specs.declared.parts.Parts.{Parts}
-use Rattle.mode_switch.specs.declared.addresses.TheConstants.{MOST_REDUCTIONS, MOST_WORDS, MOST_ITEMS}
+use Rattle.mode_switch.specs.declared.addresses.TheConstants.{MOST_REDUCTIONS, MOST_ITEMS}
 use Rattle.mode_switch.specs.declared.outcome.Outcome.{Outcome}
 use Rattle.mode_switch.specs.declared.outcome.Outcome.TheVariants.{Ended}
 use Rattle.mode_switch.specs.declared.outcome.End.TheVariants.{StepsSpent}
@@ -17,9 +21,6 @@ use Rattle.mode_switch.specs.Step.{fault_of}
 use Rattle.sparc_code.specs.declared.machine.Regs.{Regs}
 use Rattle.sparc_code.specs.declared.machine.MachineFault.{MachineFault}
 use Rattle.mode_switch.specs.State.{Loaded, MixedState, Finish}
-use Rattle.mode_switch.specs.Place.{Place, Gate, Item, Code, Nowhere}
-use Rattle.mode_switch.specs.declared.places.Site.{Site}
-use Rattle.mode_switch.specs.declared.places.Site.TheVariants as site
 
 -- what stays as it is, the state, the outcome once the run is over, and how many steps were done since the start
 pub record Progress : Type 0 where
@@ -93,10 +94,14 @@ ran_to p steps (Done f) =
 abbrev pub ran_for : Progress → ℕ → Ran
 ran_for p n = ran_to p (p.steps + steps_taken (full_step p.loaded) n p.state) (mixed_run p.loaded n p.state)
 
--- the outcome of a run, or that its steps are spent where it goes on
-abbrev pub answered : Stage MixedState Finish → Outcome
-answered (Still s) = Ended StepsSpent
-answered (Done f) = f.outcome
+-- how a run ended: where it goes on, its steps are spent in the state that it reached
+abbrev pub finish_of : Stage MixedState Finish → Finish
+finish_of (Still s) = record { outcome = Ended StepsSpent; state = s }
+finish_of (Done f) = f
+
+-- the answer of a run, with the state in which it ended
+abbrev pub answered : Ran → Finish
+answered r = record { outcome = r.answer; state = r.progress.state }
 
 -- the steps that are left to the bound; a run that is over stays as it is
 abbrev pub ran_with : Progress → Option Outcome → Ran
@@ -106,24 +111,23 @@ ran_with p (Some o) = record { progress = p; answer = o }
 abbrev pub ran : Progress → Ran
 ran p = ran_with p p.outcome
 
--- what a machine keeps true of what stays as it is: the number of items is theirs, the bound fits 64 bits, and there is
--- no junk
-pub record IsReady (modules : List Module) (parts : Parts) (limits : Limits) (junk : List ℕ) (items : ℕ) : Type 0 where
+-- a call on an image, before its first step
+abbrev pub opened : List Module → Parts → Call → Progress
+opened ms parts call = record { loaded = loaded ms parts call; state = start (loaded ms parts call) call; outcome = None; steps = 0 }
+
+-- the exported function of this name is called with these arguments, and no step was done
+pub record IsOpened (ms : List Module) (parts : Parts) (owner name : List ℕ) (args : List Term) (limits : Limits) (junk : List ℕ) (p : Progress) : Type 0 where
+  pub function : ℕ
+  pub exported : exported_number ms owner name (length args) ≡ Some function
+  pub is : p ≡ opened ms parts (call_of function args limits junk)
+
+-- what a machine keeps true: the number of items is theirs, the bound fits 64 bits, the names are those of the image,
+-- and there is no junk
+pub record IsRunnable (modules : List Module) (parts : Parts) (limits : Limits) (junk : List ℕ) (items next : ℕ) (table : List (List ℕ)) : Type 0 where
   pub counted : items ≡ items_of modules
   pub few_items : items ≤ MOST_ITEMS
   pub code : length parts.code ≤ MOST_CODE
   pub reductions : limits.reductions ≤ MOST_REDUCTIONS
   pub no_junk : junk ≡ []
-
--- the limits are within their greatest values
-pub record AreInRange (limits : Limits) : Type 0 where
-  pub reductions : limits.reductions ≤ MOST_REDUCTIONS
-  pub heap : limits.heap ≤ MOST_WORDS
-  pub stack : limits.stack ≤ MOST_WORDS
-
--- the place that a site of the code is
-abbrev pub meant : Site → Place
-meant (site.Gate n) = Gate n
-meant (site.Item i) = Item i
-meant (site.Code i) = Code i
-meant site.Nowhere = Nowhere
+  pub place : IsPlaceIn junk next
+  pub names : table ≡ parts.atoms

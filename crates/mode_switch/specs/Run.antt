@@ -1,13 +1,13 @@
--- Whole runs of the machine: the start of a call, and the bound on its steps (docs/MACHINE.md, Runs).
+-- Whole runs of the machine: the first state, and the bound on the steps (docs/MACHINE.md, Runs).
 use Rattle.std.specs.Prelude.{ℕ, ◌+◌, ◌-◌, ◌*◌, ◌++◌, false, List, ◌∷◌, length, replicate, slice_index, drop}
 use Rattle.small_step.specs.Stage.{Stage, run}
+use Rattle.beam_code.specs.declared.call.Limits.{Limits}
 use Rattle.beam_code.specs.Function.{items_of}
 use Rattle.sparc_code.specs.declared.machine.Regs.{Regs}
-use Rattle.tagged_words.specs.Store.{heap_start}
+use Rattle.tagged_words.specs.declared.addresses.TheConstants.{HEAP_START}
+use Rattle.mode_switch.specs.declared.addresses.TheConstants.{STACK_END, STOP_LINK, X_START, X_WORDS}
 use Rattle.mode_switch.specs.Junk.{with_junk}
-use Rattle.mode_switch.specs.Memory.{x_start, stack_end, x_words}
-use Rattle.mode_switch.specs.Place.{entry_address}
-use Rattle.mode_switch.specs.State.{Loaded, MixedState, Finish}
+use Rattle.mode_switch.specs.State.{Loaded, Memory, MixedState, Finish}
 use Rattle.mode_switch.specs.Step.{mixed_step}
 
 -- a step, with junk written before it
@@ -21,17 +21,13 @@ mixed_run g n s = run (full_step g) n s
 abbrev pub bound : Loaded → ℕ
 bound g = (g.limits.reductions + 2) * (2 * length g.parts.code + 2 * items_of g.modules + 8)
 
--- %o7 of the start: a return leads to the stop address, which is gate 0
-abbrev pub stop_link : ℕ
-stop_link = 0x00FFFFF8
-
 -- the registers at the start: heap top, heap limit, stack limit, reductions and x area in globals, the first five
--- arguments in %o0 to %o4, the stack pointer and the return
-abbrev pub first_registers : Loaded → ℕ → ℕ → List ℕ → Regs
-first_registers g entry laid args =
+-- arguments in %o0 to %o4, the stack pointer and the link
+abbrev pub first_registers : Limits → ℕ → ℕ → List ℕ → Regs
+first_registers limits entry laid args =
     record {
-      r = 0 ∷ 0 ∷ (heap_start + 4 * laid) ∷ 0 ∷ (heap_start + 4 * g.limits.heap) ∷ (stack_end - 4 * g.limits.stack) ∷ g.limits.reductions ∷ x_start
-          ∷ slice_index args 0 ∷ slice_index args 1 ∷ slice_index args 2 ∷ slice_index args 3 ∷ slice_index args 4 ∷ 0 ∷ stack_end ∷ stop_link
+      r = 0 ∷ 0 ∷ (HEAP_START + 4 * laid) ∷ 0 ∷ (HEAP_START + 4 * limits.heap) ∷ (STACK_END - 4 * limits.stack) ∷ limits.reductions ∷ X_START
+          ∷ slice_index args 0 ∷ slice_index args 1 ∷ slice_index args 2 ∷ slice_index args 3 ∷ slice_index args 4 ∷ 0 ∷ STACK_END ∷ STOP_LINK
           ∷ replicate 16 0;
       y = 0;
       n = false;
@@ -42,13 +38,15 @@ first_registers g entry laid args =
       npc = entry + 4;
     }
 
--- the start of a call whose arguments are these words, laid out as these words of the heap
-abbrev pub first_state : Loaded → ℕ → List ℕ → List ℕ → MixedState
-first_state g fid laid args =
+abbrev pub first_memory : Limits → List ℕ → List ℕ → Memory
+first_memory limits laid args =
     record {
-      regs = first_registers g (entry_address g fid) (length laid) args;
-      heap = record { start = heap_start; words = laid ++ replicate (g.limits.heap - length laid) 0 };
-      xs = record { start = x_start; words = replicate 5 0 ++ drop 5 args ++ replicate (x_words - 5 - length (drop 5 args)) 0 };
-      stack = record { start = stack_end - 4 * g.limits.stack; words = replicate g.limits.stack 0 };
-      place = 0;
+      heap = record { start = HEAP_START; words = laid ++ replicate (limits.heap - length laid) 0 };
+      xs = record { start = X_START; words = replicate 5 0 ++ drop 5 args ++ replicate (X_WORDS - 5 - length (drop 5 args)) 0 };
+      stack = record { start = STACK_END - 4 * limits.stack; words = replicate limits.stack 0 };
     }
+
+-- the first state at an entry, for arguments that are these words, laid out as these words of the heap
+abbrev pub first_state : Limits → ℕ → List ℕ → List ℕ → MixedState
+first_state limits entry laid args =
+    record { regs = first_registers limits entry (length laid) args; memory = first_memory limits laid args; place = 0 }

@@ -16,12 +16,16 @@ pub record Loaded : Type 0 where
   pub names : List (List ℕ)
   pub junk : List ℕ
 
--- registers with PC and nPC, the words of heap, x area and stack, and the next place in the junk list
-pub record MixedState : Type 0 where
-  pub regs : Regs
+-- the words that stores reach
+pub record Memory : Type 0 where
   pub heap : Region
   pub xs : Region
   pub stack : Region
+
+-- registers with PC and nPC, the memory, and the next place in the junk list
+pub record MixedState : Type 0 where
+  pub regs : Regs
+  pub memory : Memory
   pub place : ℕ
 
 -- how a run ended, and in which state

@@ -7,13 +7,16 @@ use Rattle.sparc_code.specs.declared.machine.Regs.{Regs}
 use Rattle.sparc_code.specs.declared.machine.MachineFault.{MachineFault}
 use Rattle.sparc_code.specs.declared.machine.MachineFault.TheVariants as sparc
 use Rattle.sparc_code.specs.Step.{Effect, Goes, Stores, Faults, register, word_effect}
+use Rattle.mode_switch.specs.declared.destination.Destination.{Destination}
+use Rattle.mode_switch.specs.declared.destination.Destination.TheVariants.{Gate, Item, Word, Nowhere}
+use Rattle.mode_switch.specs.declared.hardware.TheConstants.{VALUE_REGISTER}
 use Rattle.mode_switch.specs.declared.outcome.End.{End}
 use Rattle.mode_switch.specs.declared.outcome.End.TheVariants.{StackFull, OutOfReductions, MachineFault as Fault, NotBuilt}
 use Rattle.mode_switch.specs.declared.outcome.FaultKind.TheVariants.{Illegal, Unaligned, Range, Fetch}
 use Rattle.mode_switch.specs.declared.outcome.Outcome.{Outcome}
 use Rattle.mode_switch.specs.declared.outcome.Outcome.TheVariants.{Returned, Ended}
-use Rattle.mode_switch.specs.Memory.{literals_of, load_of, stores_of, stored}
-use Rattle.mode_switch.specs.Place.{Place, Gate, Item, Code, Nowhere, is_gate, place_of}
+use Rattle.mode_switch.specs.Destination.{destination_of, is_gate}
+use Rattle.mode_switch.specs.Memory.{load_of, stores_of, stored}
 use Rattle.mode_switch.specs.State.{Loaded, MixedState, Finish}
 
 -- the run ends, and the state stays
@@ -31,36 +34,33 @@ fault_of regs (sparc.Range at) = Fault Range at
 
 abbrev pub native_after : MixedState → Effect → Stage MixedState Finish
 native_after s (Goes regs) = Still (record s { regs = regs })
-native_after s (Stores regs at w) = Still (stored (record s { regs = regs }) at w)
+native_after s (Stores regs at w) = Still (record s { regs = regs; memory = stored s.memory at w })
 native_after s (Faults fault) = ended s (fault_of s.regs fault)
 
 -- a native word
 abbrev pub native_step : Loaded → MixedState → Option ℕ → Stage MixedState Finish
 native_step g s None = ended s (Fault Fetch s.regs.pc)
-native_step g s (Some word) = native_after s (word_effect (load_of (literals_of g) s) (stores_of s) s.regs (decoded word))
-
--- the register of x0, of a return's value
-abbrev pub value_register : ℕ
-value_register = 8
+native_step g s (Some word) = native_after s (word_effect (load_of g.parts.literals s.memory) (stores_of s.memory) s.regs (decoded word))
 
 -- a gate: the stop address, the two ends of an entry, and those still to come
 abbrev pub gate_step : MixedState → ℕ → Stage MixedState Finish
 gate_step s n =
-    if nat_eq n 0 then over s (Returned (register s.regs value_register))
+    if nat_eq n 0 then over s (Returned (register s.regs VALUE_REGISTER))
     else if nat_eq n 1 then ended s OutOfReductions
     else if nat_eq n 2 then ended s StackFull
     else if is_gate n then ended s (NotBuilt s.regs.pc)
     else ended s (Fault Fetch s.regs.pc)
 
-abbrev pub step_at : Loaded → MixedState → Place → Stage MixedState Finish
+abbrev pub step_at : Loaded → MixedState → Destination → Stage MixedState Finish
 step_at g s (Gate n) = gate_step s n
 step_at g s (Item i) = ended s (NotBuilt s.regs.pc)
-step_at g s (Code i) = native_step g s (slice_get g.parts.code i)
+step_at g s (Word i) = native_step g s (slice_get g.parts.code i)
 step_at g s Nowhere = ended s (Fault Fetch s.regs.pc)
 
-abbrev pub place_at : Loaded → MixedState → Place
-place_at g s = place_of (items_of g.modules) (length g.parts.code) s.regs.pc
+-- where PC leads
+abbrev pub destination : Loaded → MixedState → Destination
+destination g s = destination_of (items_of g.modules) (length g.parts.code) s.regs.pc
 
 -- one step
 abbrev pub mixed_step : Loaded → MixedState → Stage MixedState Finish
-mixed_step g s = step_at g s (place_at g s)
+mixed_step g s = step_at g s (destination g s)

@@ -1,5 +1,5 @@
 -- The line that an outcome is printed as, and the status that goes with it (docs/MACHINE.md, Outcomes).
-use Rattle.std.specs.Prelude.{ℕ, ◌/◌, ◌%◌, true, Option, Some, None, List, [], ◌∷◌, ◌++◌, codes}
+use Rattle.std.specs.Prelude.{ℕ, ◌/◌, ◌%◌, true, List, [], ◌∷◌, ◌++◌, codes}
 use Rattle.std.specs.Fmt.{digit_glyph, signed_decimal}
 use Rattle.mode_switch.specs.declared.outcome.End.{End}
 use Rattle.mode_switch.specs.declared.outcome.End.TheVariants as e
@@ -7,6 +7,8 @@ use Rattle.mode_switch.specs.declared.outcome.FaultKind.{FaultKind}
 use Rattle.mode_switch.specs.declared.outcome.FaultKind.TheVariants as kinds
 use Rattle.mode_switch.specs.declared.outcome.Outcome.{Outcome}
 use Rattle.mode_switch.specs.declared.outcome.Outcome.TheVariants.{Returned, Raised, Ended}
+use Rattle.mode_switch.specs.declared.text.TheConstants.{VALUE_STATUS, END_STATUS, NOT_BUILT_STATUS}
+use Rattle.mode_switch.specs.State.{Loaded, MixedState}
 use Rattle.tagged_words.specs.Word.{class_of}
 use Rattle.tagged_words.specs.declared.kind.Class.{Class}
 use Rattle.tagged_words.specs.declared.kind.Class.TheVariants.{Small}
@@ -29,36 +31,33 @@ kind_name kinds.Fetch = codes "fetch"
 kind_name kinds.Term = codes "term"
 kind_name kinds.Frame = codes "frame"
 
--- the name of an end; those that are still to come have none yet
-abbrev pub end_name : End → Option (List ℕ)
-end_name e.Bignum = Some (codes "bignum")
-end_name e.HeapFull = Some (codes "heap_full")
-end_name e.StackFull = Some (codes "stack_full")
-end_name e.OutOfReductions = Some (codes "out_of_reductions")
-end_name e.BadOperand = Some (codes "bad_operand")
-end_name (e.NotProvided m f arity) = None
-end_name (e.MachineFault kind at) = Some (codes "machine_fault " ++ kind_name kind ++ codes " " ++ word_text at)
-end_name e.StepsSpent = Some (codes "steps_spent")
-end_name (e.NotBuilt at) = None
+-- what is not printed yet
+abbrev pub not_built : List ℕ × ℕ
+not_built = ([], NOT_BUILT_STATUS)
 
--- the status of a value, and of an end
-abbrev pub value_status : ℕ
-value_status = 0
+abbrev pub end_line : List ℕ → List ℕ × ℕ
+end_line name = (codes "end " ++ name ++ codes "\n", END_STATUS)
 
-abbrev pub end_status : ℕ
-end_status = 2
-
-abbrev pub end_line : Option (List ℕ) → Option (List ℕ × ℕ)
-end_line None = None
-end_line (Some name) = Some (codes "end " ++ name ++ codes "\n", end_status)
+-- the line of an end; those that are still to come have none yet
+abbrev pub end_text : End → List ℕ × ℕ
+end_text e.Bignum = end_line (codes "bignum")
+end_text e.HeapFull = end_line (codes "heap_full")
+end_text e.StackFull = end_line (codes "stack_full")
+end_text e.OutOfReductions = end_line (codes "out_of_reductions")
+end_text e.BadOperand = end_line (codes "bad_operand")
+end_text (e.NotProvided m f arity) = not_built
+end_text (e.MachineFault kind at) = end_line (codes "machine_fault " ++ kind_name kind ++ codes " " ++ word_text at)
+end_text e.StepsSpent = end_line (codes "steps_spent")
+end_text (e.NotBuilt at) = not_built
 
 -- the line of a word that is returned, where it is a small integer
-abbrev pub value_line : Class → Option (List ℕ × ℕ)
-value_line (Small i) = Some (codes "return " ++ signed_decimal i ++ codes "\n", value_status)
-value_line _ = None
+abbrev pub value_text : Class → List ℕ × ℕ
+value_text (Small i) = (codes "return " ++ signed_decimal i ++ codes "\n", VALUE_STATUS)
+value_text _ = not_built
 
--- what is said of an outcome; of one whose terms lie in memory nothing is said yet
-abbrev pub said : Outcome → Option (List ℕ × ℕ)
-said (Returned w) = value_line (class_of w)
-said (Raised class w) = None
-said (Ended end) = end_line (end_name end)
+-- the line of an outcome and its status, given the state in which the run ended; of one whose terms lie in memory
+-- nothing is said yet
+abbrev pub said : Loaded → MixedState → Outcome → List ℕ × ℕ
+said g s (Returned w) = value_text (class_of w)
+said g s (Raised class reason) = not_built
+said g s (Ended end) = end_text end

@@ -1,24 +1,21 @@
-//! The ranges of addresses, in bytes, and the greatest sizes.
+//! The ranges of addresses, in bytes, and the greatest sizes (`docs/MACHINE.md`).
 
-pub(crate) const GATE_START: u32 = 0x0100_0000;
-
-pub(crate) const GATES: u32 = 256;
-
-pub(crate) const ITEM_START: u32 = 0x0200_0000;
-
-pub(crate) const LITERAL_START: u32 = 0x0800_0000;
-
-pub(crate) const HEAP_START: u32 = 0x1000_0000;
-
-pub(crate) const X_START: u32 = 0x2000_0000;
-
-pub(crate) const STACK_FLOOR: u32 = 0x3000_0000;
-
-pub(crate) const STACK_END: u32 = 0x4000_0000;
+/// The address of gate 0, where a return from the outermost call leads.
+pub const GATE_START: u32 = 0x0100_0000;
+/// How many gates have an address.
+pub const GATES: u32 = 256;
+/// The address of the first emulated item.
+pub const ITEM_START: u32 = 0x0200_0000;
+/// The address of the x area: no heap reaches it.
+pub const X_START: u32 = 0x2000_0000;
 /// How many words the x area has.
-pub(crate) const X_WORDS: u32 = 256;
-/// The return address of a call, less 8: gate 0 stands there.
-pub(crate) const STOP_LINK: u32 = 0x00FF_FFF8;
+pub const X_WORDS: u32 = 256;
+/// No stack reaches down to this address.
+pub const STACK_FLOOR: u32 = 0x3000_0000;
+/// The address behind the stack.
+pub const STACK_END: u32 = 0x4000_0000;
+/// The link of the outermost call: a return leads to gate 0.
+pub const STOP_LINK: u32 = 0x00FF_FFF8;
 
 /// The most reductions of a call.
 pub const MOST_REDUCTIONS: u32 = 1_000_000_000;

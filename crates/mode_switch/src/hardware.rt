@@ -1,37 +1,35 @@
 //! The registers and the memory: what a step changes.
 
-ghost use Rattle.mode_switch.specs.Machine.{stage_of, outcome_by, AreInRange};
-ghost use Rattle.mode_switch.specs.Memory.{load_of, stores_of, stored};
-ghost use Rattle.mode_switch.specs.Reach.{literal_words, is_store};
-ghost use Rattle.mode_switch.specs.Start.{started};
+ghost use Rattle.mode_switch.specs.Call.{IsInRange};
+ghost use Rattle.mode_switch.specs.Machine.{stage_of, outcome_by};
+ghost use Rattle.mode_switch.specs.Memory.{load_of, stores_of};
+ghost use Rattle.mode_switch.specs.Run.{first_registers, first_state};
 ghost use Rattle.mode_switch.specs.declared.outcome.End.TheVariants.{MachineFault as Fault, NotBuilt};
 ghost use Rattle.mode_switch.specs.declared.outcome.FaultKind.TheVariants.{Fetch};
 ghost use Rattle.mode_switch.specs.Step.{ended, over, fault_of, gate_step, native_after};
-ghost use Rattle.sparc_code.specs.Code.{decoded, IsRegister, IsSource};
-ghost use Rattle.sparc_code.specs.Step.{word_effect, store_effect, address_of};
-ghost use Rattle.std.specs.Prelude.{◌≡◌, ◌<◌, ◌+◌, ◌^◌, false, IfOk};
+ghost use Rattle.sparc_code.specs.Code.{decoded};
+ghost use Rattle.sparc_code.specs.Step.{word_effect};
+ghost use Rattle.std.specs.Prelude.{◌≡◌, ◌<◌, ◌+◌, ◌^◌, [], IfOk};
 
-use crate::addresses::{HEAP_START, STACK_END, STACK_FLOOR, STOP_LINK, X_START, X_WORDS};
+use crate::addresses::{STACK_END, STOP_LINK, X_START};
+use crate::destination::is_gate;
+use crate::memory::{Memory, Reach};
 use crate::outcome::{End, FaultKind, Outcome};
-use crate::places::is_gate;
-use crate::reach::Reach;
 use beam_code::Limits;
-use sparc_code::{Instr, MachineFault, Regs, Source, decode, step};
+use sparc_code::{MachineFault, Regs, step};
 use std::alloc::{AllocError, Global};
 use std::marker::Model;
-use tagged_words::WordBlock;
+use tagged_words::HEAP_START;
 
 /// The register of a return's value.
-const VALUE_REGISTER: u8 = 8;
+pub(crate) const VALUE_REGISTER: u8 = 8;
 
-/// Registers, heap, x area and stack, and the place in the list of junk.
+/// Registers, memory, and the place in the list of junk.
 #[derive(Drop)]
 pub(crate) struct Hardware {
-    pub(crate) regs: Regs,
-    pub(crate) heap: WordBlock,
-    pub(crate) xs: WordBlock,
-    pub(crate) stack: WordBlock,
-    pub(crate) place: u64,
+    regs: Regs,
+    memory: Memory,
+    place: u64,
 }
 
 impl Model for Hardware {
@@ -39,7 +37,7 @@ impl Model for Hardware {
 
     ghost Value = { MixedState };
 
-    ghost view = { λ h. record { regs = h.regs; heap = h.heap; xs = h.xs; stack = h.stack; place = h.place } };
+    ghost view = { λ h. record { regs = h.regs; memory = h.memory; place = h.place } };
 }
 
 /// The end that a fault of the processor is, at the word at `pc`.
@@ -47,9 +45,18 @@ fn end_of(regs: &Regs, fault: MachineFault) -> End
     ensures { result ≡ fault_of regs.now fault }
 {
     match fault {
-        MachineFault::Illegal => End::MachineFault(FaultKind::Illegal, regs.pc),
-        MachineFault::Unaligned(at) => End::MachineFault(FaultKind::Unaligned, at),
-        MachineFault::Range(at) => End::MachineFault(FaultKind::Range, at),
+        MachineFault::Illegal => End::MachineFault {
+            kind: FaultKind::Illegal,
+            address: regs.pc,
+        },
+        MachineFault::Unaligned(address) => End::MachineFault {
+            kind: FaultKind::Unaligned,
+            address,
+        },
+        MachineFault::Range(address) => End::MachineFault {
+            kind: FaultKind::Range,
+            address,
+        },
     }
 }
 
@@ -65,47 +72,19 @@ fn end_by(regs: &Regs, done: Result<(), MachineFault>) -> Option<Outcome>
 }
 
 /// The registers before the first step of a call without arguments.
-fn first_registers(limits: &Limits, entry: u32) -> Regs
-    requires limits { AreInRange limits.now }
+fn registers_at(limits: &Limits, entry: u32) -> Regs
+    requires limits { IsInRange limits.now }
     requires entry { entry + 4 < 2 ^ 32 }
-    ensures { result ≡ (started limits.now entry).regs }
+    ensures { result ≡ first_registers limits.now entry 0 [] }
 {
-    let heap_end = HEAP_START + 4 * limits.heap;
-    let stack_low = STACK_END - 4 * limits.stack;
-    let r = [
-        0,
-        0,
-        HEAP_START,
-        0,
-        heap_end,
-        stack_low,
-        limits.reductions,
-        X_START,
-        0,
-        0,
-        0,
-        0,
-        0,
-        0,
-        STACK_END,
-        STOP_LINK,
-        0,
-        0,
-        0,
-        0,
-        0,
-        0,
-        0,
-        0,
-        0,
-        0,
-        0,
-        0,
-        0,
-        0,
-        0,
-        0,
-    ];
+    let mut r = [0; 32];
+    r[2] = HEAP_START;
+    r[4] = HEAP_START + 4 * limits.heap;
+    r[5] = STACK_END - 4 * limits.stack;
+    r[6] = limits.reductions;
+    r[7] = X_START;
+    r[14] = STACK_END;
+    r[15] = STOP_LINK;
     Regs {
         r,
         y: 0,
@@ -122,19 +101,14 @@ impl Hardware {
     /// Registers and memory before the first step of a call without arguments. The one error is
     /// want of memory.
     pub(crate) fn start(alloc: Global, limits: &Limits, entry: u32) -> Result<Hardware, AllocError>
-        requires limits { AreInRange limits.now }
+        requires limits { IsInRange limits.now }
         requires entry { entry + 4 < 2 ^ 32 }
-        ensures { IfOk result (λ h. h ≡ started limits.now entry) }
+        ensures { IfOk result (λ h. h ≡ first_state limits.now entry [] []) }
     {
-        let heap = WordBlock::new(alloc, HEAP_START, limits.heap)?;
-        let xs = WordBlock::new(alloc, X_START, X_WORDS)?;
-        let stack = WordBlock::new(alloc, STACK_END - 4 * limits.stack, limits.stack)?;
-        let regs = first_registers(limits, entry);
+        let memory = Memory::new(alloc, limits)?;
         Ok(Hardware {
-            regs,
-            heap,
-            xs,
-            stack,
+            regs: registers_at(limits, entry),
+            memory,
             place: 0,
         })
     }
@@ -144,23 +118,6 @@ impl Hardware {
         ensures { result ≡ self.now.regs.pc }
     {
         self.regs.pc
-    }
-
-    /// Puts a word at an address, where stores reach it. Else nothing changes.
-    #[inline]
-    fn put(&mut self, addr: u32, w: u32) -> bool
-        ensures done { result ≡ stores_of self.old addr }
-        ensures stored { self.new ≡ stored self.old addr w }
-    {
-        if addr < HEAP_START {
-            false
-        } else if addr < X_START {
-            self.heap.set(addr, w)
-        } else if addr < STACK_FLOOR {
-            self.xs.set(addr, w)
-        } else {
-            self.stack.set(addr, w)
-        }
     }
 
     /// The gate with a number: the run is over there.
@@ -180,7 +137,7 @@ impl Hardware {
         ensures { over self.now result ≡ gate_step self.now number }
     {
         if is_gate(number) {
-            Outcome::Ended(End::NotBuilt(self.regs.pc))
+            self.not_built()
         } else {
             self.no_code()
         }
@@ -190,58 +147,32 @@ impl Hardware {
     pub(crate) fn no_code(&self) -> Outcome
         ensures { over self.now result ≡ ended self.now (Fault Fetch self.now.regs.pc) }
     {
-        Outcome::Ended(End::MachineFault(FaultKind::Fetch, self.regs.pc))
+        Outcome::Ended(End::MachineFault {
+            kind: FaultKind::Fetch,
+            address: self.regs.pc,
+        })
     }
 
-    /// PC is at an item: what items do is not built.
+    /// What stands at PC is not built.
     pub(crate) fn not_built(&self) -> Outcome
         ensures { over self.now result ≡ ended self.now (NotBuilt self.now.regs.pc) }
     {
-        Outcome::Ended(End::NotBuilt(self.regs.pc))
-    }
-
-    /// A store of `rd` at the sum of two operands.
-    fn store(&mut self, rd: u8, rs1: u8, src: Source) -> Option<Outcome>
-        requires rd_within { IsRegister rd }
-        requires rs1_within { IsRegister rs1 }
-        requires src_within { IsSource src }
-        ensures { stage_of self.new result ≡ native_after self.old (store_effect (stores_of self.old) self.old.regs rd (address_of self.old.regs rs1 src)) }
-    {
-        let addr = self.regs.address(rs1, src);
-        if addr % 4 != 0 {
-            return Some(Outcome::Ended(End::MachineFault(FaultKind::Unaligned, addr)));
-        }
-        let value = self.regs.register(rd);
-        if self.put(addr, value) {
-            self.regs.advance();
-            None
-        } else {
-            Some(Outcome::Ended(End::MachineFault(FaultKind::Range, addr)))
-        }
-    }
-
-    /// An instruction that is no store.
-    fn plain(&mut self, literals: &[u32], word: u32) -> Option<Outcome>
-        requires { is_store (decoded word) ≡ false }
-        ensures { stage_of self.new result ≡ native_after self.old (word_effect (load_of (literal_words literals.now) self.old) (stores_of self.old) self.old.regs (decoded word)) }
-    {
-        let mut reach = Reach {
-            literals,
-            heap: &self.heap,
-            xs: &self.xs,
-            stack: &self.stack,
-        };
-        let done = step(&mut self.regs, word, &mut reach);
-        end_by(&self.regs, done)
+        Outcome::Ended(End::NotBuilt {
+            address: self.regs.pc,
+        })
     }
 
     /// A native word: the processor does it.
+    #[inline]
     pub(crate) fn native(&mut self, literals: &[u32], word: u32) -> Option<Outcome>
-        ensures { stage_of self.new result ≡ native_after self.old (word_effect (load_of (literal_words literals.now) self.old) (stores_of self.old) self.old.regs (decoded word)) }
+        ensures stage { stage_of self.new result ≡ native_after self.old (word_effect (load_of literals.now self.old.memory) (stores_of self.old.memory) self.old.regs (decoded word)) }
+        ensures place { self.new.place ≡ self.old.place }
     {
-        match decode(word) {
-            Some(Instr::Store { rd, rs1, src }) => self.store(rd, rs1, src),
-            _ => self.plain(literals, word),
-        }
+        let mut reach = Reach {
+            literals,
+            memory: &mut self.memory,
+        };
+        let done = step(&mut self.regs, word, &mut reach);
+        end_by(&self.regs, done)
     }
 }

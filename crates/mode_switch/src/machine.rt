@@ -1,28 +1,24 @@
 //! The machine on an image: one step, and the run of a call.
 
 ghost use Rattle.beam_code.specs.Function.{exported_number};
-ghost use Rattle.mode_switch.specs.Machine.{stage_of, stepped, step_answer, ran, AreInRange};
-ghost use Rattle.native_link.specs.Fitting.{IsFitting};
-ghost use Rattle.native_link.specs.Image.{AreReadings};
-ghost use Rattle.native_link.specs.Lookup.{native_entry_of};
-ghost use Rattle.mode_switch.specs.Start.{IsLoadable, IsOpenedAt, entry_at, entry_in, loaded_of};
+ghost use Rattle.mode_switch.specs.Call.{IsInRange};
+ghost use Rattle.mode_switch.specs.Machine.{IsOpened, stage_of, stepped, step_answer, ran};
 ghost use Rattle.mode_switch.specs.Run.{bound, full_step};
 ghost use Rattle.mode_switch.specs.Step.{native_step};
 ghost use Rattle.mode_switch.specs.Text.{said};
-ghost use Rattle.std.specs.Option.{option_map};
-ghost use Rattle.std.specs.Prelude.{◌≡◌, ◌+◌, ◌<◌, ◌^◌, ◌↔◌, None, [], length, slice_get, string_bytes, IfOk, IfSome, IsErrOf, OnOk};
+ghost use Rattle.std.specs.Prelude.{◌≡◌, ◌↔◌, None, [], length, slice_get, string_bytes, IfOk, IsErrOf, OnOk};
 
-use crate::addresses::ITEM_START;
+use crate::destination::{Destination, destination_at};
 use crate::hardware::Hardware;
-use crate::lookup::{Spot, is_exported, items_of_modules, spot_of};
+use crate::opening::{Start, start_of};
 use crate::outcome::{End, Outcome, Step};
-use crate::places::{Site, site_of};
-use crate::text::outcome_text;
+use crate::text::text_of_outcome;
 use beam_code::Limits;
 use native_link::Image;
 use sqlite_items::Items;
 use std::alloc::{AllocError, Global};
 use std::marker::Model;
+use tagged_words::Atoms;
 use term_tree::{Name, Term};
 use thiserror::Error;
 
@@ -30,6 +26,8 @@ use thiserror::Error;
 #[derive(Drop)]
 pub struct Machine {
     image: Image,
+    /// The atoms by number: those of the image.
+    atoms: Atoms,
     limits: Limits,
     junk: Vec<u32>,
     /// How many items all functions have.
@@ -41,7 +39,7 @@ pub struct Machine {
 }
 
 impl Model for Machine {
-    ghost use Rattle.mode_switch.specs.Machine.{Progress, IsReady};
+    ghost use Rattle.mode_switch.specs.Machine.{Progress, IsRunnable};
     ghost use Rattle.std.specs.Coded.{codes};
     ghost use Rattle.term_tree.specs.contracts.term.Term as term;
 
@@ -49,9 +47,9 @@ impl Model for Machine {
 
     ghost coded = { Prim.hlevel (codes, term.the_row.coded) };
 
-    ghost view = { λ m. record { loaded = record { modules = m.image.modules; parts = m.image.parts; limits = m.limits; names = m.image.parts.atoms; junk = m.junk.items }; state = m.hardware; outcome = m.outcome; steps = m.steps } };
+    ghost view = { λ m. record { loaded = record { modules = m.image.modules; parts = m.image.parts; limits = m.limits; names = m.atoms; junk = m.junk.items }; state = m.hardware; outcome = m.outcome; steps = m.steps } };
 
-    ghost invariant = { λ m. IsReady m.image.modules m.image.parts m.limits m.junk.items m.items };
+    ghost invariant = { λ m. IsRunnable m.image.modules m.image.parts m.limits m.junk.items m.items m.hardware.place m.atoms };
 }
 
 /// A call of an exported function by the names of its module and of itself, with its arguments.
@@ -75,33 +73,6 @@ pub enum OpenRefusal {
     Memory(AllocError),
 }
 
-/// The entry of the function that stands at a spot.
-fn entry_of(image: &Image, spot: Spot) -> u32
-    requires { entry_at (native_entry_of image.now.parts.natives spot.number) spot + 4 < 2 ^ 32 }
-    ensures { result ≡ entry_at (native_entry_of image.now.parts.natives spot.number) spot }
-{
-    match image.native_entry(spot.number) {
-        Some(entry) => entry,
-        None => ITEM_START + 4 * (spot.first + spot.entry),
-    }
-}
-
-/// The entry of the function that a call names, if it is exported.
-fn entry_of_call(image: &Image, call: &Call) -> Option<u32>
-    requires fitting { IsFitting image.now.parts }
-    requires loadable { IsLoadable image.now.modules }
-    ensures entry { result ≡ option_map (entry_in image.now.modules image.now.parts) (exported_number image.now.modules call.now.«module» call.now.function (length call.now.args)) }
-    ensures fits { IfSome result (λ entry. entry + 4 < 2 ^ 32) }
-{
-    let arity = call.args.len();
-    if is_exported(image.modules(), &call.module, &call.function, arity) {
-        let spot = spot_of(image.modules(), &call.module, &call.function, arity)?;
-        Some(entry_of(image, spot))
-    } else {
-        None
-    }
-}
-
 impl Machine {
     /// The machine before the first step of a call, with all memory that it ever needs. For now no
     /// function with arguments is exported, so that none is too long, and there is no junk.
@@ -112,43 +83,47 @@ impl Machine {
         limits: Limits,
         junk: Vec<u32>,
     ) -> Result<Machine, OpenRefusal>
-        requires read { AreReadings image.parts.texts image.modules }
-        requires limits { AreInRange limits }
+        requires limits { IsInRange limits }
         requires no_junk { junk.items ≡ [] }
-        ensures opened { IfOk result (IsOpenedAt (loaded_of image.modules image.parts limits) (exported_number image.modules call.«module» call.function (length call.args))) }
+        ensures opened { IfOk result (IsOpened image.modules image.parts call.«module» call.function call.args limits junk.items) }
         ensures not_exported { IsErrOf result OpenRefusal.NotExported ↔ (exported_number image.modules call.«module» call.function (length call.args) ≡ None) }
         ensures no_args { OnOk result (call.args ≡ []) }
         ensures args_fit { IsErrOf result OpenRefusal.ArgsDoNotFit → ⊥ }
     {
-        let Some(entry) = entry_of_call(&image, &call) else {
-            return Err(OpenRefusal::NotExported);
-        };
-        let items = items_of_modules(image.modules());
-        match Hardware::start(alloc, &limits, entry) {
-            Ok(hardware) => Ok(Machine {
-                image,
-                limits,
-                junk,
-                items,
-                hardware,
-                outcome: None,
-                steps: 0,
-            }),
-            Err(e) => Err(OpenRefusal::Memory(e)),
+        match start_of(alloc, &image, &call, &limits) {
+            Ok(start) => {
+                let Start {
+                    items,
+                    atoms,
+                    hardware,
+                } = start;
+                Ok(Machine {
+                    image,
+                    atoms,
+                    limits,
+                    junk,
+                    items,
+                    hardware,
+                    outcome: None,
+                    steps: 0,
+                })
+            }
+            Err(refusal) => Err(refusal),
         }
     }
 
     /// The line that an outcome is printed as, ended by a line feed, and its status: 0 for a value
-    /// and 2 for an end. For now there is none for a word that is no small integer, for an
-    /// exception, and for the ends `NotProvided` and `NotBuilt`.
+    /// and 2 for an end. For now the text is empty and the status 11 for a word that is no small
+    /// integer, for an exception, and for the ends `NotProvided` and `NotBuilt`.
     pub fn outcome_text(
-        &self,
+        &mut self,
         alloc: Global,
         outcome: &Outcome,
-    ) -> Result<Option<(String, u8)>, AllocError>
-        ensures { IfOk result (λ text. option_map (λ t. (string_bytes t.0, t.1)) text ≡ said outcome.now) }
+    ) -> Result<(String, u8), AllocError>
+        ensures said { IfOk result (λ t. (string_bytes t.0, t.1) ≡ said self.old.loaded self.old.state outcome.now) }
+        ensures unchanged { self.new ≡ self.old }
     {
-        outcome_text(alloc, outcome)
+        text_of_outcome(alloc, outcome)
     }
 
     /// The most steps that `run` makes, those of `step` before it included.
@@ -190,11 +165,11 @@ impl Machine {
         ensures rest { self.new ≡ record self.old { state = self.new.state } }
     {
         let words = self.image.parts().code.len() as u32;
-        match site_of(self.items, words, self.hardware.pc()) {
-            Site::Gate(number) => Some(self.hardware.gate(number)),
-            Site::Item(_) => Some(self.hardware.not_built()),
-            Site::Code(place) => self.do_word(place),
-            Site::Nowhere => Some(self.hardware.no_code()),
+        match destination_at(self.items, words, self.hardware.pc()) {
+            Destination::Gate(number) => Some(self.hardware.gate(number)),
+            Destination::Item(_) => Some(self.hardware.not_built()),
+            Destination::Word(place) => self.do_word(place),
+            Destination::Nowhere => Some(self.hardware.no_code()),
         }
     }
 

@@ -17,7 +17,7 @@ pub enum FaultKind {
     Frame,
 }
 
-/// How a run ended that gave neither a value nor an exception. Names are atom numbers.
+/// How a run ended that gave neither a value nor an exception.
 #[derive(Clone, Copy, PartialEq, Eq, Debug)]
 pub enum End {
     Bignum,
@@ -25,19 +25,29 @@ pub enum End {
     StackFull,
     OutOfReductions,
     BadOperand,
-    NotProvided(u32, u32, u32),
+    /// A call of a function of a module that is not there: the names are atom numbers.
+    NotProvided {
+        module: u32,
+        function: u32,
+        arity: u32,
+    },
     /// The fault, and the address or the word that it is about.
-    MachineFault(FaultKind, u32),
+    MachineFault {
+        kind: FaultKind,
+        address: u32,
+    },
     StepsSpent,
     /// PC came to this address, whose meaning the machine does not have yet.
-    NotBuilt(u32),
+    NotBuilt {
+        address: u32,
+    },
 }
 
 /// How a run ended, in words: a value, an exception with its class and reason, or an end.
 #[derive(Clone, Copy, PartialEq, Eq, Debug)]
 pub enum Outcome {
     Returned(u32),
-    Raised(RaiseClass, u32),
+    Raised { class: RaiseClass, reason: u32 },
     Ended(End),
 }
 

@@ -1,8 +1,8 @@
 //! The printed line of an outcome.
 
+ghost use Rattle.mode_switch.specs.State.{Loaded, MixedState};
 ghost use Rattle.mode_switch.specs.Text as says;
 ghost use Rattle.std.specs.Fmt.{digit_glyph, signed_decimal};
-ghost use Rattle.std.specs.Option.{option_map};
 ghost use Rattle.std.specs.Prelude.{◌≡◌, ◌<◌, ◌∷◌, ◌++◌, [], true, IfOk, OnOk, codes, string_bytes};
 ghost use Rattle.tagged_words.specs.Word.{class_of};
 
@@ -12,9 +12,11 @@ use std::fmt::Write;
 use tagged_words::{Class, class};
 
 /// The status of a value.
-const VALUE_STATUS: u8 = 0;
+pub const VALUE_STATUS: u8 = 0;
 /// The status of an end.
-const END_STATUS: u8 = 2;
+pub const END_STATUS: u8 = 2;
+/// The status of what is not printed yet.
+pub const NOT_BUILT_STATUS: u8 = 11;
 
 /// The digit of a number below 16.
 fn digit(number: u32) -> &'static str
@@ -109,8 +111,15 @@ fn value_line(alloc: Global, number: i32) -> Result<String, AllocError>
     Ok(line)
 }
 
-fn end_text(alloc: Global, end: &End) -> Result<Option<(String, u8)>, AllocError>
-    ensures { IfOk result (λ text. option_map (λ t. (string_bytes t.0, t.1)) text ≡ says.end_line (says.end_name end.now)) }
+/// What is said of an outcome that is not printed yet.
+fn not_built(alloc: Global) -> (String, u8)
+    ensures { (string_bytes result.0, result.1) ≡ says.not_built }
+{
+    (String::new(alloc), NOT_BUILT_STATUS)
+}
+
+fn end_text(alloc: Global, end: &End) -> Result<(String, u8), AllocError>
+    ensures { IfOk result (λ t. (string_bytes t.0, t.1) ≡ says.end_text end.now) }
 {
     let line = match end {
         End::Bignum => end_line(alloc, "bignum")?,
@@ -118,36 +127,34 @@ fn end_text(alloc: Global, end: &End) -> Result<Option<(String, u8)>, AllocError
         End::StackFull => end_line(alloc, "stack_full")?,
         End::OutOfReductions => end_line(alloc, "out_of_reductions")?,
         End::BadOperand => end_line(alloc, "bad_operand")?,
-        End::MachineFault(kind, at) => fault_line(alloc, *kind, *at)?,
+        End::MachineFault { kind, address } => fault_line(alloc, *kind, *address)?,
         End::StepsSpent => end_line(alloc, "steps_spent")?,
-        End::NotProvided(..) | End::NotBuilt(_) => return Ok(None),
+        End::NotProvided { .. } | End::NotBuilt { .. } => return Ok(not_built(alloc)),
     };
-    Ok(Some((line, END_STATUS)))
+    Ok((line, END_STATUS))
 }
 
-fn value_text(alloc: Global, word: u32) -> Result<Option<(String, u8)>, AllocError>
-    ensures { IfOk result (λ text. option_map (λ t. (string_bytes t.0, t.1)) text ≡ says.value_line (class_of word)) }
+fn value_text(alloc: Global, word: u32) -> Result<(String, u8), AllocError>
+    ensures { IfOk result (λ t. (string_bytes t.0, t.1) ≡ says.value_text (class_of word)) }
 {
     match class(word) {
         Class::Small(number) => {
             let line = value_line(alloc, number)?;
-            Ok(Some((line, VALUE_STATUS)))
+            Ok((line, VALUE_STATUS))
         }
-        _ => Ok(None),
+        _ => Ok(not_built(alloc)),
     }
 }
 
-/// The line of an outcome, ended by a line feed, and its status; none where the outcome holds a
-/// term that is no small integer, and of an end that is not built yet.
-pub(crate) fn outcome_text(
-    alloc: Global,
-    outcome: &Outcome,
-) -> Result<Option<(String, u8)>, AllocError>
-    ensures { IfOk result (λ text. option_map (λ t. (string_bytes t.0, t.1)) text ≡ says.said outcome.now) }
+/// The line of an outcome, ended by a line feed, and its status; the empty text and a status of
+/// its own where the outcome holds a term that is no small integer, and of an end that is not
+/// built yet.
+pub(crate) fn text_of_outcome(alloc: Global, outcome: &Outcome) -> Result<(String, u8), AllocError>
+    ensures { (g : Loaded) (s : MixedState) → IfOk result (λ t. (string_bytes t.0, t.1) ≡ says.said g s outcome.now) }
 {
     match outcome {
         Outcome::Returned(word) => value_text(alloc, *word),
-        Outcome::Raised(..) => Ok(None),
+        Outcome::Raised { .. } => Ok(not_built(alloc)),
         Outcome::Ended(end) => end_text(alloc, end),
     }
 }

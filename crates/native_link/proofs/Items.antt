@@ -7,14 +7,15 @@ use Rattle.std.proofs.lemmas.Bool.{cases_lt, ltb-false, ltb-true, le-ltb, lt-ltb
 use Rattle.std.proofs.lemmas.List.Concat.{flat_map-cons}
 use Rattle.std.proofs.lemmas.Str.{IsUtf8-from_is_utf8}
 use Rattle.term_tree.specs.Name.{characters_in}
-use Rattle.native_link.specs.declared.limits.TheConstants.{MOST_CHARACTERS}
+use Rattle.term_tree.specs.declared.name.TheConstants.{MOST_CHARACTERS}
 use Rattle.native_link.specs.declared.parts.Native.{Native}
 use Rattle.native_link.specs.declared.parts.Descriptor.{Descriptor}
 use Rattle.native_link.specs.declared.refusal.ImageRefusal.TheVariants.{Value}
-use Rattle.native_link.specs.Atoms.{is_name, is_among}
-use Rattle.native_link.specs.Fitting.{IsNew, IsName, IsWord, Turn, NativeFits, IsSizedNative, DescriptorFits, IsSizedDescriptor}
+use Rattle.term_tree.specs.Name.{is_name}
+use Rattle.tagged_words.specs.Atoms.{IsNew, is_among}
+use Rattle.native_link.specs.Fitting.{IsName, IsWord, Turn, NativeFits, IsSizedNative, DescriptorFits, IsSizedDescriptor}
 use Rattle.native_link.specs.Mask.{mask_words, Ascends, front_below, rest_from, bits, mask}
-use Rattle.native_link.specs.Place.{Place, ◌>>=◌, or_fault}
+use Rattle.native_link.specs.Cursor.{Cursor, ◌>>=◌, or_fault}
 use Rattle.native_link.specs.Reading.{word_at, count_at, bytes_at, text_at, new_atom, atom_at, order_at, first_at, some_at, native_at, frame_at, kind_at, handler_at, slots_in, is_slot, mask_word_at, slots_at, descriptor_at}
 use Rattle.native_link.specs.Spelling.{word, padding, text, native, descriptor}
 use Rattle.native_link.proofs.Bits.{bits-slots, slots-ascend, slots-bits, front-append, front-rest, front-ascends, ascends-append}
@@ -29,7 +30,7 @@ use Rattle.native_link.proofs.Fields.{word_takes, word_again, count_takes, count
 text_parts : (b : List ℕ) → text b ≡ word (length b) ++ padded b
 text_parts b = append_assoc (word (length b)) b (replicate (padding (length b)) 0)
 
-pub text_takes : (room : ℕ) (p : Place) (x : List ℕ × Place) → IsBytes p.rest → text_at room p ≡ Ok x → Takes text (λ t. (length t ≤ room) × IsWord (length t)) p x
+pub text_takes : (room : ℕ) (p : Cursor) (x : List ℕ × Cursor) → IsBytes p.rest → text_at room p ≡ Ok x → Takes text (λ t. (length t ≤ room) × IsWord (length t)) p x
 unfolding text_at
 text_takes room p x fits e =
     bind_case (count_at room p) (λ n. bytes_at n.0 n.1) x e (λ n h0 e0.
@@ -38,7 +39,7 @@ text_takes room p x fits e =
     let both = took_then p (word n.0) n.1 (padded x.0) x.1 a.0 b.0 in
     (took_same p (word n.0 ++ padded x.0) (text x.0) x.1 (ap (λ k. word k ++ padded x.0) (sym b.1) ∙ sym (text_parts x.0)) both, (omega (arith, a.1.0, b.1), omega (arith, a.1.1, b.1))))
 
-pub text_again : (room : ℕ) (p : Place) (t : List ℕ) (rest : List ℕ) → (length t ≤ room) × IsWord (length t) → p.rest ≡ text t ++ rest → Gets (text_at room p) t rest
+pub text_again : (room : ℕ) (p : Cursor) (t : List ℕ) (rest : List ℕ) → (length t ≤ room) × IsWord (length t) → p.rest ≡ text t ++ rest → Gets (text_at room p) t rest
 unfolding text_at
 text_again room p t rest h e =
     let parts : p.rest ≡ word (length t) ++ (padded t ++ rest) = e ∙ ap (λ (l : List ℕ). l ++ rest) (text_parts t) ∙ append_assoc (word (length t)) (padded t) rest in
@@ -46,7 +47,7 @@ text_again room p t rest h e =
 
 -- ---- atoms
 
-pub atom_takes : (earlier : List (List ℕ)) (p : Place) (x : List ℕ × Place) → IsBytes p.rest → atom_at earlier p ≡ Ok x → Takes text (λ a. IsNew earlier a × IsName a) p x
+pub atom_takes : (earlier : List (List ℕ)) (p : Cursor) (x : List ℕ × Cursor) → IsBytes p.rest → atom_at earlier p ≡ Ok x → Takes text (λ a. IsNew earlier a × IsName a) p x
 unfolding atom_at
 atom_takes earlier p x fits e =
     bind_case (word_at p) (λ n. bytes_at n.0 n.1 >>= λ b. or_fault (new_atom earlier b.0) (Value n.1.at) >>= λ atom. Ok (atom, b.1)) x e (λ n h0 e0.
@@ -59,14 +60,14 @@ atom_takes earlier p x fits e =
     let both = took_then p (word n.0) n.1 (padded b.0) b.1 a.0 c.0 in
     let whole = took_same p (word n.0 ++ padded b.0) (text b.0) b.1 (ap (λ k. word k ++ padded b.0) (sym c.1) ∙ sym (text_parts b.0)) both in
     let same : (b.0, b.1) ≡ x = ap (λ (a : List ℕ). (a, b.1)) s.1 ∙ ok_is (atom, b.1) x e2 in
-    subst (λ (y : List ℕ × Place). Takes text (λ a. IsNew earlier a × IsName a) p y) same (whole, (not_false (is_among b.0 earlier) t.1, t.0)))))
+    subst (λ (y : List ℕ × Cursor). Takes text (λ a. IsNew earlier a × IsName a) p y) same (whole, (not_false (is_among b.0 earlier) t.1, t.0)))))
 
 name_length : (a : List ℕ) → IsName a → IsWord (length a)
 name_length a h =
     let t = both_true (is_utf8 a) (not (ltb MOST_CHARACTERS (characters_in a))) h in
     omega (arith, length_of_text a (IsUtf8-from_is_utf8 a t.0), ltb-false MOST_CHARACTERS (characters_in a) (not_false (ltb MOST_CHARACTERS (characters_in a)) t.1))
 
-pub atom_again : (earlier : List (List ℕ)) (p : Place) (a : List ℕ) (rest : List ℕ) → IsNew earlier a × IsName a → p.rest ≡ text a ++ rest → Gets (atom_at earlier p) a rest
+pub atom_again : (earlier : List (List ℕ)) (p : Cursor) (a : List ℕ) (rest : List ℕ) → IsNew earlier a × IsName a → p.rest ≡ text a ++ rest → Gets (atom_at earlier p) a rest
 unfolding atom_at
 atom_again earlier p a rest h e =
     let parts : p.rest ≡ word (length a) ++ (padded a ++ rest) = e ∙ ap (λ (l : List ℕ). l ++ rest) (text_parts a) ∙ append_assoc (word (length a)) (padded a) rest in
@@ -80,7 +81,7 @@ atom_again earlier p a rest h e =
 
 -- ---- native functions
 
-pub native_takes : (t : Turn) (p : Place) (x : Native × Place) → IsBytes p.rest → native_at t p ≡ Ok x → Takes native (λ n. NativeFits t n × IsSizedNative n) p x
+pub native_takes : (t : Turn) (p : Cursor) (x : Native × Cursor) → IsBytes p.rest → native_at t p ≡ Ok x → Takes native (λ n. NativeFits t n × IsSizedNative n) p x
 unfolding native_at
 native_takes t p x fits e =
     bind_case (order_at t.least p) (λ fid. first_at t.place fid.1 >>= λ first. some_at first.1 >>= λ count. Ok (record { fid = fid.0; first = first.0; count = count.0 }, count.1)) x e (λ fid h0 e0.
@@ -91,11 +92,11 @@ native_takes t p x fits e =
     let c = some_takes first.1 count b.0.fits h2 in
     let ab = took_then p (word fid.0) fid.1 (word first.0) first.1 a.0 b.0 in
     let abc = took_then p (word fid.0 ++ word first.0) first.1 (word count.0) count.1 ab c.0 in
-    let made : Native × Place = (record { fid = fid.0; first = first.0; count = count.0 }, count.1) in
-    subst (λ (y : Native × Place). Takes native (λ n. NativeFits t n × IsSizedNative n) p y) (ok_is made x e2)
+    let made : Native × Cursor = (record { fid = fid.0; first = first.0; count = count.0 }, count.1) in
+    subst (λ (y : Native × Cursor). Takes native (λ n. NativeFits t n × IsSizedNative n) p y) (ok_is made x e2)
     (abc, (record { ascends = a.1.0; place = b.1.0; some = c.1.0 }, record { fid = a.1.1; first = b.1.1; count = c.1.1 })))))
 
-pub native_again : (t : Turn) (p : Place) (n : Native) (rest : List ℕ) → NativeFits t n × IsSizedNative n → p.rest ≡ native n ++ rest → Gets (native_at t p) n rest
+pub native_again : (t : Turn) (p : Cursor) (n : Native) (rest : List ℕ) → NativeFits t n × IsSizedNative n → p.rest ≡ native n ++ rest → Gets (native_at t p) n rest
 unfolding native_at
 native_again t p n rest h e =
     let parts : p.rest ≡ word n.fid ++ (word n.first ++ (word n.count ++ rest)) = e ∙ append_assoc (word n.fid ++ word n.first) (word n.count) rest ∙ append_assoc (word n.fid) (word n.first) (word n.count ++ rest) in
@@ -141,10 +142,10 @@ mask_text_more n first these others end w a b e =
     ap (flat_map word) words ∙ flat_map-cons word w (mask n (first + 32) others)
 
 -- `slots_at` takes as many words as it is told
-pub slots_take : (frame n first : ℕ) (p : Place) (x : List ℕ × Place) → IsBytes p.rest → slots_at frame n first p ≡ Ok x → Takes (mask_text n first) (λ ss. Ascends first frame ss × AreSlots frame ss) p x
+pub slots_take : (frame n first : ℕ) (p : Cursor) (x : List ℕ × Cursor) → IsBytes p.rest → slots_at frame n first p ≡ Ok x → Takes (mask_text n first) (λ ss. Ascends first frame ss × AreSlots frame ss) p x
 unfolding slots_at mask_word_at
 slots_take frame zero first p x fits e =
-    subst (λ (y : List ℕ × Place). Takes (mask_text zero first) (λ ss. Ascends first frame ss × AreSlots frame ss) p y) (ok_is ([], p) x e)
+    subst (λ (y : List ℕ × Cursor). Takes (mask_text zero first) (λ ss. Ascends first frame ss × AreSlots frame ss) p y) (ok_is ([], p) x e)
     (record { parts = ap (λ (l : List ℕ). flat_map word l ++ p.rest) (sym (mask_none first [])); fits = fits }, (tt, refl))
 slots_take frame (suc n) first p x fits e =
     bind_case (mask_word_at frame first p) (λ these. slots_at frame n (first + 32) these.1 >>= λ others. Ok (these.0 ++ others.0, others.1)) x e (λ these h0 e0.
@@ -152,16 +153,16 @@ slots_take frame (suc n) first p x fits e =
     bind_case (word_at p) (λ w. cond (list_all (is_slot frame) (slots_in 32 first w.0)) (Ok (slots_in 32 first w.0, w.1)) (Err (Value p.at))) these h0 (λ w h2 e2.
     let g = test_ok (list_all (is_slot frame) (slots_in 32 first w.0)) (Value p.at) (slots_in 32 first w.0, w.1) these e2 in
     let a = word_takes p w fits h2 in
-    let slots_are : slots_in 32 first w.0 ≡ these.0 = ap (λ (y : List ℕ × Place). y.0) g.1 in
-    let after_is : w.1 ≡ these.1 = ap (λ (y : List ℕ × Place). y.1) g.1 in
-    let first_taken : Took p (word w.0) these.1 = subst (λ (q : Place). Took p (word w.0) q) after_is a.0 in
+    let slots_are : slots_in 32 first w.0 ≡ these.0 = ap (λ (y : List ℕ × Cursor). y.0) g.1 in
+    let after_is : w.1 ≡ these.1 = ap (λ (y : List ℕ × Cursor). y.1) g.1 in
+    let first_taken : Took p (word w.0) these.1 = subst (λ (q : Cursor). Took p (word w.0) q) after_is a.0 in
     let c = slots_take frame n (first + 32) these.1 others first_taken.fits h1 in
     let here : Ascends first (first + 32) these.0 = subst (Ascends first (first + 32)) slots_are (slots-ascend 32 first w.0) in
     let all : AreSlots frame these.0 = subst (AreSlots frame) slots_are g.0 in
     let back : bits first these.0 ≡ w.0 = ap (bits first) (sym slots_are) ∙ bits-slots 32 first first w.0 (omega arith) a.1 ∙ one_times first w.0 in
     let both = took_then p (word w.0) these.1 (mask_text n (first + 32) others.0) others.1 first_taken c.0 in
     let whole = took_same p (word w.0 ++ mask_text n (first + 32) others.0) (mask_text (suc n) first (these.0 ++ others.0)) others.1 (sym (mask_text_more n first these.0 others.0 frame w.0 here c.1.0 back)) both in
-    subst (λ (y : List ℕ × Place). Takes (mask_text (suc n) first) (λ ss. Ascends first frame ss × AreSlots frame ss) p y) (ok_is (these.0 ++ others.0, others.1) x e1)
+    subst (λ (y : List ℕ × Cursor). Takes (mask_text (suc n) first) (λ ss. Ascends first frame ss × AreSlots frame ss) p y) (ok_is (these.0 ++ others.0, others.1) x e1)
     (whole, (ascends-append first (first + 32) frame these.0 others.0 (omega arith) here (ascends_below first (first + 32) frame these.0 here all) c.1.0, slots_append frame these.0 others.0 all c.1.1)))))
   where
     one_times : (first w : ℕ) → 2 ^ (first - first) * w ≡ w
@@ -187,7 +188,7 @@ nothing : (from end : ℕ) (ss : List ℕ) → end ≤ from → Ascends from end
 nothing from end [] le h = refl
 nothing from end (s ∷ ss) le h = absurd (omega (arith, h.0, h.1))
 
-pub slots_again : (frame n first : ℕ) (p : Place) (ss rest : List ℕ) → frame ≤ first + 32 * n → Ascends first frame ss → AreSlots frame ss → p.rest ≡ mask_text n first ss ++ rest → Gets (slots_at frame n first p) ss rest
+pub slots_again : (frame n first : ℕ) (p : Cursor) (ss rest : List ℕ) → frame ≤ first + 32 * n → Ascends first frame ss → AreSlots frame ss → p.rest ≡ mask_text n first ss ++ rest → Gets (slots_at frame n first p) ss rest
 unfolding slots_at mask_word_at
 slots_again frame zero first p ss rest le asc all e =
     let none : ss ≡ [] = nothing first frame ss (omega (arith, le)) asc in
@@ -226,7 +227,7 @@ from_one frame (s ∷ ss) a b =
 enough_words : (frame : ℕ) → frame ≤ 0 + 32 * mask_words frame
 enough_words frame = omega arith
 
-pub descriptor_takes : (least : ℕ) (p : Place) (x : Descriptor × Place) → IsBytes p.rest → descriptor_at least p ≡ Ok x → Takes descriptor (λ d. DescriptorFits least d × IsSizedDescriptor d) p x
+pub descriptor_takes : (least : ℕ) (p : Cursor) (x : Descriptor × Cursor) → IsBytes p.rest → descriptor_at least p ≡ Ok x → Takes descriptor (λ d. DescriptorFits least d × IsSizedDescriptor d) p x
 unfolding descriptor_at
 descriptor_takes least p x fits e =
     bind_case (order_at least p) (λ ret. word_at ret.1 >>= λ fid. word_at fid.1 >>= λ item. frame_at item.1 >>= λ frame. kind_at frame.1 >>= λ kind. handler_at kind.0 kind.1 >>= λ handler. slots_at frame.0 (mask_words frame.0) 0 handler.1 >>= λ live. Ok (record { ret = ret.0; fid = fid.0; item = item.0; frame = frame.0; kind = kind.0; handler = handler.0; live = live.0 }, live.1)) x e (λ ret h0 e0.
@@ -249,11 +250,11 @@ descriptor_takes least p x fits e =
     let u4 = took_then p (word ret.0 ++ word fid.0 ++ word item.0 ++ word frame.0) frame.1 (kind_text kind.0) kind.1 u3 t4.0 in
     let u5 = took_then p (word ret.0 ++ word fid.0 ++ word item.0 ++ word frame.0 ++ kind_text kind.0) kind.1 (word handler.0) handler.1 u4 t5.0 in
     let u6 = took_then p (word ret.0 ++ word fid.0 ++ word item.0 ++ word frame.0 ++ kind_text kind.0 ++ word handler.0) handler.1 (mask_text (mask_words frame.0) 0 live.0) live.1 u5 t6.0 in
-    let made : Descriptor × Place = (record { ret = ret.0; fid = fid.0; item = item.0; frame = frame.0; kind = kind.0; handler = handler.0; live = live.0 }, live.1) in
-    subst (λ (y : Descriptor × Place). Takes descriptor (λ d. DescriptorFits least d × IsSizedDescriptor d) p y) (ok_is made x e6)
+    let made : Descriptor × Cursor = (record { ret = ret.0; fid = fid.0; item = item.0; frame = frame.0; kind = kind.0; handler = handler.0; live = live.0 }, live.1) in
+    subst (λ (y : Descriptor × Cursor). Takes descriptor (λ d. DescriptorFits least d × IsSizedDescriptor d) p y) (ok_is made x e6)
     (u6, (record { ascends = t0.1.0; some = t3.1.0; most = t3.1.1; handler = t5.1.0; live = from_one frame.0 live.0 t6.1.0 t6.1.1 }, record { ret = t0.1.1; fid = t1.1; item = t2.1; handler = t5.1.1 })))))))))
 
-pub descriptor_again : (least : ℕ) (p : Place) (d : Descriptor) (rest : List ℕ) → DescriptorFits least d × IsSizedDescriptor d → p.rest ≡ descriptor d ++ rest → Gets (descriptor_at least p) d rest
+pub descriptor_again : (least : ℕ) (p : Cursor) (d : Descriptor) (rest : List ℕ) → DescriptorFits least d × IsSizedDescriptor d → p.rest ≡ descriptor d ++ rest → Gets (descriptor_at least p) d rest
 unfolding descriptor_at
 descriptor_again least p d rest h e =
     let parts : p.rest ≡ word d.ret ++ (word d.fid ++ (word d.item ++ (word d.frame ++ (kind_text d.kind ++ (word d.handler ++ (mask_text (mask_words d.frame) 0 d.live ++ rest)))))) = e

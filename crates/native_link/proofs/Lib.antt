@@ -15,3 +15,4 @@ pub mod Sizes
 pub mod Lookups
 pub mod Sound
 pub mod Second
+pub mod Tables

@@ -5,7 +5,7 @@ use Rattle.std.proofs.lemmas.Bool.{cases_lt, cases_eq, eq-eqb, ne_eqb}
 use Rattle.native_link.specs.declared.parts.Native.{Native}
 use Rattle.native_link.specs.declared.parts.Descriptor.{Descriptor}
 use Rattle.native_link.specs.Fitting.{Turn, NativeFits, after_native, DescriptorFits, after_descriptor, total_count}
-use Rattle.native_link.specs.Follow.{Follow}
+use Rattle.tagged_words.specs.Follow.{Follow}
 use Rattle.native_link.specs.Lookup.{with_key, native_of, Splits}
 
 -- keys that rise, from a least one on

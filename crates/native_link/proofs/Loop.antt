@@ -3,7 +3,7 @@ use Rattle.std.proofs.Common.{◌≡◌, ℕ, suc, ◌-◌, ◌+◌, ◌≤◌, 
 use Rattle.std.proofs.lemmas.List.{append-nil}
 use Rattle.native_link.specs.declared.refusal.ImageRefusal.{ImageRefusal}
 use Rattle.native_link.specs.declared.refusal.ImageRefusal.TheVariants as refusals
-use Rattle.native_link.specs.Place.{Place, Read, ◌>>=◌, Fails, many_at}
+use Rattle.native_link.specs.Cursor.{Cursor, Read, ◌>>=◌, Fails, many_at}
 
 -- what was read before, and what is still read
 abbrev pub with_front : {A : Type 0} → List A → Read (List A) → Read (List A)
@@ -24,12 +24,12 @@ fails_through (refusals.Memory e) r f h = tt
 pub fails_same : {A : Type 0} (e : ImageRefusal) (r s : Result A ImageRefusal) → r ≡ s → Fails e r → Fails e s
 fails_same e r s same h = subst (Fails e) same h
 
-module _ {S A : Type 0} (item : S → Place → Read A) (next : S → A → S) where
+module _ {S A : Type 0} (item : S → Cursor → Read A) (next : S → A → S) where
   regroup : (front : List A) (n : A) (read : Read (List A)) → with_front front (read >>= λ x. Ok (n ∷ x.0, x.1)) ≡ with_front (front ++ n ∷ []) read
   regroup front n (Ok x) = ap (λ (ns : List A). Ok (ns, x.1)) (simp append_assoc)
   regroup front n (Err f) = refl
 
-  pub goes_on : (front : List A) (count i : ℕ) (s : S) (p : Place) (n : A) (after : Place) (total : Read (List A)) → i < count → item s p ≡ Ok (n, after)
+  pub goes_on : (front : List A) (count i : ℕ) (s : S) (p : Cursor) (n : A) (after : Cursor) (total : Read (List A)) → i < count → item s p ≡ Ok (n, after)
       → with_front front (many_at item next (count - i) s p) ≡ total → with_front (front ++ n ∷ []) (many_at item next (count - (i + 1)) (next s n) after) ≡ total
   unfolding many_at
   goes_on front count i s p n after total lt h so_far =
@@ -37,18 +37,18 @@ module _ {S A : Type 0} (item : S → Place → Read A) (next : S → A → S) w
       let one : with_front front (many_at item next (count - i) s p) ≡ with_front (front ++ n ∷ []) (many_at item next (count - (i + 1)) (next s n) after) = rw (k, h) (regroup front n (many_at item next (count - (i + 1)) (next s n) after)) in
       sym one ∙ so_far
 
-  item_fails : (e : ImageRefusal) (front : List A) (count i : ℕ) (s : S) (p : Place) → i < count → Fails e (item s p) → Fails e (with_front front (many_at item next (count - i) s p))
+  item_fails : (e : ImageRefusal) (front : List A) (count i : ℕ) (s : S) (p : Cursor) → i < count → Fails e (item s p) → Fails e (with_front front (many_at item next (count - i) s p))
   unfolding many_at
   item_fails e front count i s p lt h =
       let k : count - i ≡ suc (count - (i + 1)) = omega arith in
       rw k (fails_through e (item s p >>= λ first. many_at item next (count - (i + 1)) (next s first.0) first.1 >>= λ others. Ok (first.0 ∷ others.0, others.1)) (λ x. Ok (front ++ x.0, x.1))
       (fails_through e (item s p) (λ first. many_at item next (count - (i + 1)) (next s first.0) first.1 >>= λ others. Ok (first.0 ∷ others.0, others.1)) h))
 
-  pub ends : (e : ImageRefusal) (front : List A) (count i : ℕ) (s : S) (p : Place) (total : Read (List A)) → i < count → Fails e (item s p)
+  pub ends : (e : ImageRefusal) (front : List A) (count i : ℕ) (s : S) (p : Cursor) (total : Read (List A)) → i < count → Fails e (item s p)
       → with_front front (many_at item next (count - i) s p) ≡ total → Fails e total
   ends e front count i s p total lt h so_far = fails_same e (with_front front (many_at item next (count - i) s p)) total so_far (item_fails e front count i s p lt h)
 
-  pub is_done : (front : List A) (count i : ℕ) (s : S) (p : Place) (total : Read (List A)) → count ≤ i → with_front front (many_at item next (count - i) s p) ≡ total → total ≡ Ok (front, p)
+  pub is_done : (front : List A) (count i : ℕ) (s : S) (p : Cursor) (total : Read (List A)) → count ≤ i → with_front front (many_at item next (count - i) s p) ≡ total → total ≡ Ok (front, p)
   unfolding many_at
   is_done front count i s p total le so_far =
       let k : count - i ≡ 0 = omega arith in

@@ -4,7 +4,7 @@ use Rattle.std.specs.Str.{IsUtf8, is_utf8}
 use Rattle.std.proofs.lemmas.Bool.{cases_lt, le-ltb, lt-ltb}
 use Rattle.std.proofs.lemmas.Str.{IsUtf8-from_is_utf8, is_utf8-from_IsUtf8}
 use Rattle.term_tree.specs.Name.{characters_in}
-use Rattle.native_link.specs.Atoms.{is_name}
+use Rattle.term_tree.specs.Name.{is_name}
 
 not_utf8 : (b : Bool) (bytes : List ℕ) → is_utf8 bytes ≡ b → (IsUtf8 bytes → ⊥) → b ≡ false
 not_utf8 true bytes e h = absurd (h (IsUtf8-from_is_utf8 bytes e))

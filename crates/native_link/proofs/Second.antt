@@ -12,7 +12,7 @@ use Rattle.native_link.specs.declared.refusal.ImageRefusal.TheVariants as refusa
 use Rattle.native_link.specs.Checking.{Linked, linked, has_atoms, is_foreign, natives_checked, atom_count_offset, checking, checked_image}
 use Rattle.native_link.specs.Fitting.{total_length}
 use Rattle.native_link.specs.Image.{AreReadings, IsModuleOf, SomeUnread, Readable, Answers, Built}
-use Rattle.native_link.specs.Place.{◌>>=◌, Fails, Gives}
+use Rattle.native_link.specs.Cursor.{◌>>=◌, Fails, Gives}
 use Rattle.native_link.specs.Reading.{reading}
 use Rattle.native_link.specs.Spelling.{spelling}
 use Rattle.native_link.proofs.Sound.{Sound, reading-sound}

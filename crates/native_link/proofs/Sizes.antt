@@ -2,8 +2,7 @@
 use Rattle.std.proofs.Common.{◌≡◌, ℕ, ◌+◌, ◌*◌, ◌<◌, ◌≤◌, Bool, true, false, List, [], ◌∷◌, ◌++◌, length, get_or, take, drop, map, refl, sym, ap, ◌∙◌, arith}
 use Rattle.std.specs.Prelude.{◌&&◌, ◌==◌, replicate}
 use Rattle.std.specs.List.{flat_map}
-use Rattle.std.specs.Cmp.Lexicographic.{pointwise}
-use Rattle.std.proofs.lemmas.List.{length-append, length-replicate, length-map, take_more, take-append-drop, drop_more, append_assoc, get_or_default}
+use Rattle.std.proofs.lemmas.List.{length-append, length-replicate, length-map, take_more, take-append-drop, append_assoc, get_or_default}
 use Rattle.std.proofs.lemmas.List.Concat.{flat_map-append, flat_map-cons}
 use Rattle.beam_code.specs.declared.module.Module.{Module}
 use Rattle.beam_code.specs.declared.module.Function.{Function}
@@ -12,7 +11,6 @@ use Rattle.native_link.specs.declared.limits.TheConstants.{MAGIC, VERSION}
 use Rattle.native_link.specs.declared.parts.Parts.{Parts}
 use Rattle.native_link.specs.declared.parts.Native.{Native}
 use Rattle.native_link.specs.Checking.{atom_count_offset, native_offset}
-use Rattle.native_link.specs.Known.{begins}
 use Rattle.native_link.specs.Spelling.{word, padding, text, counted, native, descriptor, spelling}
 
 length_word : (n : ℕ) → length (word n) ≡ 4
@@ -97,32 +95,3 @@ pub functions_more : (ms : List Module) (i : ℕ) (m : Module) → i < length ms
 functions_more ms i m lt e =
     let whole : all_functions (take (i + 1) ms) ≡ all_functions (take i ms) ++ all_functions (m ∷ []) = ap all_functions (take_more ms i m lt ∙ ap (λ y. take i ms ++ y ∷ []) (sym e)) ∙ functions_append (take i ms) (m ∷ []) in
     omega (arith, ap length whole, length-append (all_functions (take i ms)) (all_functions (m ∷ [])), functions_of_one m)
-
--- ---- the atoms that a table begins with
-
-and_false : (b : Bool) → b && false ≡ false
-and_false true = refl
-and_false false = refl
-
-pub begins_short : (rs table : List (List ℕ)) → length table < length rs → begins rs table ≡ false
-begins_short [] table lt = absurd (omega arith)
-begins_short (r ∷ rs) [] lt = refl
-begins_short (r ∷ rs) (a ∷ table) lt = ap (λ b. pointwise ◌==◌ r a && b) (begins_short rs table (omega arith)) ∙ and_false (pointwise ◌==◌ r a)
-
-pub begins_at : {X : Type 0} (f : X → List ℕ) (words : List X) (table : List (List ℕ)) (i : ℕ) (w : X) (a : List ℕ) → i < length words → i < length table → w ≡ get_or words i w → a ≡ get_or table i a
-    → begins (map f (drop i words)) (drop i table) ≡ (pointwise ◌==◌ (f w) a && begins (map f (drop (i + 1) words)) (drop (i + 1) table))
-begins_at f words table i w a lw la ew ea =
-    let one : drop i words ≡ w ∷ drop (i + 1) words = drop_more words i w lw ∙ ap (λ y. y ∷ drop (i + 1) words) (sym ew) in
-    let two : drop i table ≡ a ∷ drop (i + 1) table = drop_more table i a la ∙ ap (λ y. y ∷ drop (i + 1) table) (sym ea) in
-    ap (λ l. begins (map f l) (drop i table)) one ∙ ap (begins (map f (w ∷ drop (i + 1) words))) two
-
--- one more word of the table
-pub begins_differs : {X : Type 0} (f : X → List ℕ) (words : List X) (table : List (List ℕ)) (i : ℕ) (d : X) (a : List ℕ) (b : Bool) → i < length words → i < length table → a ≡ get_or table i a → b ≡ pointwise ◌==◌ (f (get_or words i d)) a → b ≡ false
-    → begins (map f (drop i words)) (drop i table) ≡ false
-begins_differs f words table i d a b lw la ea is differs =
-    begins_at f words table i (get_or words i d) a lw la (get_or_default words i d (get_or words i d) lw) ea ∙ ap (λ x. x && begins (map f (drop (i + 1) words)) (drop (i + 1) table)) (sym is ∙ differs)
-
-pub begins_agrees : {X : Type 0} (f : X → List ℕ) (words : List X) (table : List (List ℕ)) (i : ℕ) (d : X) (a : List ℕ) (b : Bool) → i < length words → i < length table → a ≡ get_or table i a → b ≡ pointwise ◌==◌ (f (get_or words i d)) a → b ≡ true
-    → begins (map f (drop i words)) (drop i table) ≡ begins (map f (drop (i + 1) words)) (drop (i + 1) table)
-begins_agrees f words table i d a b lw la ea is agrees =
-    begins_at f words table i (get_or words i d) a lw la (get_or_default words i d (get_or words i d) lw) ea ∙ ap (λ x. x && begins (map f (drop (i + 1) words)) (drop (i + 1) table)) (sym is ∙ agrees)

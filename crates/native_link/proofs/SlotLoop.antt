@@ -2,7 +2,7 @@
 use Rattle.std.proofs.Common.{◌≡◌, ℕ, suc, ◌-◌, ◌+◌, ◌*◌, ◌/◌, ◌%◌, ◌≤◌, ◌<◌, List, [], ◌∷◌, ◌++◌, Ok, Err, refl, sym, ap, ◌∙◌, append_assoc, arith}
 use Rattle.std.proofs.lemmas.List.{append-nil}
 use Rattle.native_link.specs.declared.refusal.ImageRefusal.{ImageRefusal}
-use Rattle.native_link.specs.Place.{Place, Read, ◌>>=◌, Fails}
+use Rattle.native_link.specs.Cursor.{Cursor, Read, ◌>>=◌, Fails}
 use Rattle.native_link.specs.Reading.{slots_in, mask_word_at, slots_at}
 use Rattle.native_link.proofs.Loop.{with_front, fails_through, fails_same}
 
@@ -34,7 +34,7 @@ regroup : (front these : List ℕ) (read : Read (List ℕ)) → with_front front
 regroup front these (Ok x) = ap (λ (ns : List ℕ). Ok (ns, x.1)) (sym (append_assoc front these x.0))
 regroup front these (Err f) = refl
 
-pub word_goes_on : (frame : ℕ) (front : List ℕ) (count k : ℕ) (p : Place) (these : List ℕ) (after : Place) (total : Read (List ℕ)) → k < count → mask_word_at frame (32 * k) p ≡ Ok (these, after)
+pub word_goes_on : (frame : ℕ) (front : List ℕ) (count k : ℕ) (p : Cursor) (these : List ℕ) (after : Cursor) (total : Read (List ℕ)) → k < count → mask_word_at frame (32 * k) p ≡ Ok (these, after)
     → with_front front (slots_at frame (count - k) (32 * k) p) ≡ total → with_front (front ++ these) (slots_at frame (count - (k + 1)) (32 * (k + 1)) after) ≡ total
 unfolding slots_at
 word_goes_on frame front count k p these after total lt h so_far =
@@ -43,7 +43,7 @@ word_goes_on frame front count k p these after total lt h so_far =
     let one : with_front front (slots_at frame (count - k) (32 * k) p) ≡ with_front (front ++ these) (slots_at frame (count - (k + 1)) (32 * k + 32) after) = rw (n, h) (regroup front these (slots_at frame (count - (k + 1)) (32 * k + 32) after)) in
     rw next (sym one ∙ so_far)
 
-pub word_ends : (frame : ℕ) (e : ImageRefusal) (front : List ℕ) (count k : ℕ) (p : Place) (total : Read (List ℕ)) → k < count → Fails e (mask_word_at frame (32 * k) p)
+pub word_ends : (frame : ℕ) (e : ImageRefusal) (front : List ℕ) (count k : ℕ) (p : Cursor) (total : Read (List ℕ)) → k < count → Fails e (mask_word_at frame (32 * k) p)
     → with_front front (slots_at frame (count - k) (32 * k) p) ≡ total → Fails e total
 unfolding slots_at
 word_ends frame e front count k p total lt h so_far =
@@ -53,7 +53,7 @@ word_ends frame e front count k p total lt h so_far =
     (fails_through e (mask_word_at frame (32 * k) p) (λ these. slots_at frame (count - (k + 1)) (32 * k + 32) these.1 >>= λ others. Ok (these.0 ++ others.0, others.1)) h)) in
     fails_same e (with_front front (slots_at frame (count - k) (32 * k) p)) total so_far one
 
-pub words_done : (frame : ℕ) (front : List ℕ) (count k : ℕ) (p : Place) (total : Read (List ℕ)) → count ≤ k → with_front front (slots_at frame (count - k) (32 * k) p) ≡ total → total ≡ Ok (front, p)
+pub words_done : (frame : ℕ) (front : List ℕ) (count k : ℕ) (p : Cursor) (total : Read (List ℕ)) → count ≤ k → with_front front (slots_at frame (count - k) (32 * k) p) ≡ total → total ≡ Ok (front, p)
 unfolding slots_at
 words_done frame front count k p total le so_far =
     let n : count - k ≡ 0 = omega arith in

@@ -2,7 +2,7 @@
 use Rattle.std.proofs.Common.{◌≡◌, Bool, true, false, cond, Option, Some, None, Result, Ok, Err, refl}
 use Rattle.std.specs.Prelude.{◌&&◌, not}
 use Rattle.native_link.specs.declared.refusal.ImageRefusal.{ImageRefusal}
-use Rattle.native_link.specs.Place.{◌>>=◌, or_fault}
+use Rattle.native_link.specs.Cursor.{◌>>=◌, or_fault}
 
 -- the value of a step that did not fail
 pub bind_ok : {A B : Type 0} (r : Result A ImageRefusal) (f : A → Result B ImageRefusal) (y : B) → (r >>= f) ≡ Ok y → (x : A) × (r ≡ Ok x) × (f x ≡ Ok y)

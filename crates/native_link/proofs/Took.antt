@@ -5,8 +5,8 @@ use Rattle.std.proofs.lemmas.Bool.{cases_lt}
 use Rattle.std.proofs.lemmas.List.{get_or-drop, get_or-take, get_or_past, length-take}
 use Rattle.std.proofs.lemmas.List.Concat.{flat_map-cons}
 use Rattle.native_link.specs.declared.refusal.ImageRefusal.{ImageRefusal}
-use Rattle.native_link.specs.Follow.{Follow}
-use Rattle.native_link.specs.Place.{Place, Read, ◌>>=◌, many_at}
+use Rattle.tagged_words.specs.Follow.{Follow}
+use Rattle.native_link.specs.Cursor.{Cursor, Read, ◌>>=◌, many_at}
 use Rattle.native_link.proofs.Steps.{bind_ok, guard_ok, test_ok, ok_is}
 
 abbrev pub IsBytes : List ℕ → Type 0
@@ -24,75 +24,75 @@ IsBytes-take n bytes h i =
 
 -- ---- taking
 
-pub record Took (p : Place) (text : List ℕ) (q : Place) : Type 0 where
+pub record Took (p : Cursor) (text : List ℕ) (q : Cursor) : Type 0 where
   pub parts : p.rest ≡ text ++ q.rest
   pub fits : IsBytes q.rest
 
-pub took_then : (p : Place) (x : List ℕ) (q : Place) (y : List ℕ) (r : Place) → Took p x q → Took q y r → Took p (x ++ y) r
+pub took_then : (p : Cursor) (x : List ℕ) (q : Cursor) (y : List ℕ) (r : Cursor) → Took p x q → Took q y r → Took p (x ++ y) r
 took_then p x q y r a b = record { parts = a.parts ∙ ap (λ (t : List ℕ). x ++ t) b.parts ∙ sym (append_assoc x y r.rest); fits = b.fits }
 
-pub took_same : (p : Place) (x y : List ℕ) (q : Place) → x ≡ y → Took p x q → Took p y q
+pub took_same : (p : Cursor) (x y : List ℕ) (q : Cursor) → x ≡ y → Took p x q → Took p y q
 took_same p x y q e t = subst (λ (z : List ℕ). Took p z q) e t
 
 -- a value that a reader takes: its spelling, and what is known of it
-abbrev pub Takes : {A : Type 0} → (A → List ℕ) → (A → Type 0) → Place → A × Place → Type 0
+abbrev pub Takes : {A : Type 0} → (A → List ℕ) → (A → Type 0) → Cursor → A × Cursor → Type 0
 Takes spell Fits p x = Took p (spell x.0) x.1 × Fits x.0
 
 -- ---- getting again
 
 pub record Gets {A : Type 0} (read : Read A) (x : A) (rest : List ℕ) : Type 0 where
-  pub after : Place
+  pub after : Cursor
   pub is : read ≡ Ok (x, after)
   pub left : after.rest ≡ rest
 
 pub gets_same : {A : Type 0} (read other : Read A) (x : A) (rest : List ℕ) → other ≡ read → Gets read x rest → Gets other x rest
 gets_same read other x rest e g = record { after = g.after; is = e ∙ g.is; left = g.left }
 
-pub gets_now : {A : Type 0} (x : A) (q : Place) (rest : List ℕ) → q.rest ≡ rest → Gets (Ok (x, q)) x rest
+pub gets_now : {A : Type 0} (x : A) (q : Cursor) (rest : List ℕ) → q.rest ≡ rest → Gets (Ok (x, q)) x rest
 gets_now x q rest e = record { after = q; is = refl; left = e }
 
-pub gets_then : {A B : Type 0} (r : Read A) (f : A × Place → Read B) (x : A) (rest : List ℕ) (y : B) (last : List ℕ) → Gets r x rest → ((q : Place) → q.rest ≡ rest → Gets (f (x, q)) y last) → Gets (r >>= f) y last
+pub gets_then : {A B : Type 0} (r : Read A) (f : A × Cursor → Read B) (x : A) (rest : List ℕ) (y : B) (last : List ℕ) → Gets r x rest → ((q : Cursor) → q.rest ≡ rest → Gets (f (x, q)) y last) → Gets (r >>= f) y last
 gets_then r f x rest y last g go = gets_same (f (x, g.after)) (r >>= f) y last (ap (λ z. z >>= f) g.is) (go g.after g.left)
 
 -- ---- a test of what was read
 
-pub guarded : {A : Type 0} (r : Read A) (test : A × Place → Bool) (d : ImageRefusal) (x : A × Place) → (r >>= λ n. cond (test n) (Err d) (Ok n)) ≡ Ok x → (r ≡ Ok x) × (test x ≡ false)
+pub guarded : {A : Type 0} (r : Read A) (test : A × Cursor → Bool) (d : ImageRefusal) (x : A × Cursor) → (r >>= λ n. cond (test n) (Err d) (Ok n)) ≡ Ok x → (r ≡ Ok x) × (test x ≡ false)
 guarded r test d x e =
     let b = bind_ok r (λ n. cond (test n) (Err d) (Ok n)) x e in
     let g = guard_ok (test b.0) d b.0 x b.2 in
     (b.1 ∙ ap Ok g.1, subst (λ y. test y ≡ false) g.1 g.0)
 
-pub tested : {A : Type 0} (r : Read A) (test : A × Place → Bool) (d : ImageRefusal) (x : A × Place) → (r >>= λ n. cond (test n) (Ok n) (Err d)) ≡ Ok x → (r ≡ Ok x) × (test x ≡ true)
+pub tested : {A : Type 0} (r : Read A) (test : A × Cursor → Bool) (d : ImageRefusal) (x : A × Cursor) → (r >>= λ n. cond (test n) (Ok n) (Err d)) ≡ Ok x → (r ≡ Ok x) × (test x ≡ true)
 tested r test d x e =
     let b = bind_ok r (λ n. cond (test n) (Ok n) (Err d)) x e in
     let g = test_ok (test b.0) d b.0 x b.2 in
     (b.1 ∙ ap Ok g.1, subst (λ y. test y ≡ true) g.1 g.0)
 
-pub guarded_again : {A : Type 0} (r : Read A) (test : A × Place → Bool) (d : ImageRefusal) (x : A) (rest : List ℕ) → Gets r x rest → ((q : Place) → test (x, q) ≡ false) → Gets (r >>= λ n. cond (test n) (Err d) (Ok n)) x rest
+pub guarded_again : {A : Type 0} (r : Read A) (test : A × Cursor → Bool) (d : ImageRefusal) (x : A) (rest : List ℕ) → Gets r x rest → ((q : Cursor) → test (x, q) ≡ false) → Gets (r >>= λ n. cond (test n) (Err d) (Ok n)) x rest
 guarded_again r test d x rest g fails = gets_then r (λ n. cond (test n) (Err d) (Ok n)) x rest x rest g (λ q e. gets_same (Ok (x, q)) (cond (test (x, q)) (Err d) (Ok (x, q))) x rest (ap (λ b. cond b (Err d) (Ok (x, q))) (fails q)) (gets_now x q rest e))
 
-pub tested_again : {A : Type 0} (r : Read A) (test : A × Place → Bool) (d : ImageRefusal) (x : A) (rest : List ℕ) → Gets r x rest → ((q : Place) → test (x, q) ≡ true) → Gets (r >>= λ n. cond (test n) (Ok n) (Err d)) x rest
+pub tested_again : {A : Type 0} (r : Read A) (test : A × Cursor → Bool) (d : ImageRefusal) (x : A) (rest : List ℕ) → Gets r x rest → ((q : Cursor) → test (x, q) ≡ true) → Gets (r >>= λ n. cond (test n) (Ok n) (Err d)) x rest
 tested_again r test d x rest g holds = gets_then r (λ n. cond (test n) (Ok n) (Err d)) x rest x rest g (λ q e. gets_same (Ok (x, q)) (cond (test (x, q)) (Ok (x, q)) (Err d)) x rest (ap (λ b. cond b (Ok (x, q)) (Err d)) (holds q)) (gets_now x q rest e))
 
 -- ---- items, each in the state that the ones before it leave
 
-module _ {S A : Type 0} (item : S → Place → Read A) (next : S → A → S) (spell : A → List ℕ) (Fits : S → A → Type 0) where
-  pub many_take : ((s : S) (p : Place) (x : A × Place) → IsBytes p.rest → item s p ≡ Ok x → Takes spell (Fits s) p x)
-      → (n : ℕ) (s : S) (p : Place) (x : List A × Place) → IsBytes p.rest → many_at item next n s p ≡ Ok x → Takes (flat_map spell) (λ xs. (length xs ≡ n) × Follow Fits next s xs) p x
+module _ {S A : Type 0} (item : S → Cursor → Read A) (next : S → A → S) (spell : A → List ℕ) (Fits : S → A → Type 0) where
+  pub many_take : ((s : S) (p : Cursor) (x : A × Cursor) → IsBytes p.rest → item s p ≡ Ok x → Takes spell (Fits s) p x)
+      → (n : ℕ) (s : S) (p : Cursor) (x : List A × Cursor) → IsBytes p.rest → many_at item next n s p ≡ Ok x → Takes (flat_map spell) (λ xs. (length xs ≡ n) × Follow Fits next s xs) p x
   unfolding many_at
   many_take takes zero s p x fits e =
-      subst (λ (y : List A × Place). Takes (flat_map spell) (λ xs. (length xs ≡ 0) × Follow Fits next s xs) p y) (ok_is ([], p) x e) (record { parts = refl; fits = fits }, (refl, tt))
+      subst (λ (y : List A × Cursor). Takes (flat_map spell) (λ xs. (length xs ≡ 0) × Follow Fits next s xs) p y) (ok_is ([], p) x e) (record { parts = refl; fits = fits }, (refl, tt))
   many_take takes (suc n) s p x fits e =
       let a = bind_ok (item s p) (λ first. many_at item next n (next s first.0) first.1 >>= λ others. Ok (first.0 ∷ others.0, others.1)) x e in
       let b = bind_ok (many_at item next n (next s a.0.0) a.0.1) (λ others. Ok (a.0.0 ∷ others.0, others.1)) x a.2 in
       let first = takes s p a.0 fits a.1 in
       let second = many_take takes n (next s a.0.0) a.0.1 b.0 first.0.fits b.1 in
       let both = took_then p (spell a.0.0) a.0.1 (flat_map spell b.0.0) b.0.1 first.0 second.0 in
-      subst (λ (y : List A × Place). Takes (flat_map spell) (λ xs. (length xs ≡ suc n) × Follow Fits next s xs) p y) (ok_is (a.0.0 ∷ b.0.0, b.0.1) x b.2)
+      subst (λ (y : List A × Cursor). Takes (flat_map spell) (λ xs. (length xs ≡ suc n) × Follow Fits next s xs) p y) (ok_is (a.0.0 ∷ b.0.0, b.0.1) x b.2)
       (took_same p (spell a.0.0 ++ flat_map spell b.0.0) (flat_map spell (a.0.0 ∷ b.0.0)) b.0.1 (sym (flat_map-cons spell a.0.0 b.0.0)) both, (ap suc second.1.0, (first.1, second.1.1)))
 
-  pub many_again : ((s : S) (p : Place) (x : A) (rest : List ℕ) → Fits s x → p.rest ≡ spell x ++ rest → Gets (item s p) x rest)
-      → (xs : List A) (s : S) (p : Place) (rest : List ℕ) → Follow Fits next s xs → p.rest ≡ flat_map spell xs ++ rest → Gets (many_at item next (length xs) s p) xs rest
+  pub many_again : ((s : S) (p : Cursor) (x : A) (rest : List ℕ) → Fits s x → p.rest ≡ spell x ++ rest → Gets (item s p) x rest)
+      → (xs : List A) (s : S) (p : Cursor) (rest : List ℕ) → Follow Fits next s xs → p.rest ≡ flat_map spell xs ++ rest → Gets (many_at item next (length xs) s p) xs rest
   unfolding many_at
   many_again again [] s p rest fits e = gets_now [] p rest e
   many_again again (x ∷ xs) s p rest fits e =

@@ -6,15 +6,17 @@ use Rattle.std.specs.declared.alloc.AllocError.{AllocError}
 use Rattle.std.specs.List.{flat_map, AllByRecursion}
 use Rattle.std.proofs.lemmas.Bool.{eqb-true}
 use Rattle.std.proofs.lemmas.List.{append-nil, nil_from_length}
-use Rattle.native_link.specs.declared.limits.TheConstants.{MAGIC, VERSION, MOST_MODULES, MOST_TEXT_BYTES, MOST_ATOMS, MOST_LITERALS, MOST_NATIVES, MOST_CODE, MOST_DESCRIPTORS}
+use Rattle.beam_code.specs.declared.module.TheConstants.{MOST_TEXT_BYTES}
+use Rattle.native_link.specs.declared.limits.TheConstants.{MAGIC, VERSION, MOST_MODULES, MOST_ATOMS, MOST_LITERALS, MOST_NATIVES, MOST_CODE, MOST_DESCRIPTORS}
 use Rattle.native_link.specs.declared.parts.Parts.{Parts}
 use Rattle.native_link.specs.declared.parts.Native.{Native}
 use Rattle.native_link.specs.declared.parts.Descriptor.{Descriptor}
 use Rattle.native_link.specs.declared.refusal.ImageRefusal.{ImageRefusal}
 use Rattle.native_link.specs.declared.refusal.ImageRefusal.TheVariants.{Long}
-use Rattle.native_link.specs.Fitting.{total_length, IsNew, and_atom, Turn, NativeFits, after_native, first_turn, total_count, DescriptorFits, after_descriptor, IsFitting, IsWord, IsName, IsSizedNative, IsSizedDescriptor, IsSized}
-use Rattle.native_link.specs.Follow.{Follow}
-use Rattle.native_link.specs.Place.{Place, Read, ◌>>=◌, start, many_at, Gives}
+use Rattle.tagged_words.specs.Atoms.{IsNew, and_atom}
+use Rattle.native_link.specs.Fitting.{total_length, Turn, NativeFits, after_native, first_turn, total_count, DescriptorFits, after_descriptor, IsFitting, IsWord, IsName, IsSizedNative, IsSizedDescriptor, IsSized}
+use Rattle.tagged_words.specs.Follow.{Follow}
+use Rattle.native_link.specs.Cursor.{Cursor, Read, ◌>>=◌, start, many_at, Gives}
 use Rattle.native_link.specs.Reading.{word_at, magic_at, version_at, count_at, module_count_at, text_at, after_text, texts_at, atom_at, atoms_at, each_word, no_more, literals_at, roots_at, native_at, natives_at, code_count_at, code_at, descriptor_at, descriptors_at, parts_at, end_at, reading}
 use Rattle.native_link.specs.Spelling.{word, text, counted, native, descriptor, spelling}
 use Rattle.native_link.proofs.Steps.{bind_case, test_ok, ok_is}
@@ -24,13 +26,13 @@ use Rattle.native_link.proofs.Items.{text_takes, text_again, atom_takes, atom_ag
 
 -- ---- a list behind its length
 
-module _ {S A : Type 0} (item : S → Place → Read A) (next : S → A → S) (spell : A → List ℕ) (Fits : S → A → Type 0) (count : Place → Read ℕ) (C : ℕ → Type 0) where
+module _ {S A : Type 0} (item : S → Cursor → Read A) (next : S → A → S) (spell : A → List ℕ) (Fits : S → A → Type 0) (count : Cursor → Read ℕ) (C : ℕ → Type 0) where
   abbrev pub Counts : S → List A → Type 0
   Counts s xs = C (length xs) × Follow Fits next s xs
 
-  pub counted_takes : ((p : Place) (x : ℕ × Place) → IsBytes p.rest → count p ≡ Ok x → Takes word C p x)
-      → ((s : S) (p : Place) (x : A × Place) → IsBytes p.rest → item s p ≡ Ok x → Takes spell (Fits s) p x)
-      → (s : S) (p : Place) (x : List A × Place) → IsBytes p.rest → (count p >>= λ n. many_at item next n.0 s n.1) ≡ Ok x → Takes (counted spell) (Counts s) p x
+  pub counted_takes : ((p : Cursor) (x : ℕ × Cursor) → IsBytes p.rest → count p ≡ Ok x → Takes word C p x)
+      → ((s : S) (p : Cursor) (x : A × Cursor) → IsBytes p.rest → item s p ≡ Ok x → Takes spell (Fits s) p x)
+      → (s : S) (p : Cursor) (x : List A × Cursor) → IsBytes p.rest → (count p >>= λ n. many_at item next n.0 s n.1) ≡ Ok x → Takes (counted spell) (Counts s) p x
   counted_takes counts takes s p x fits e =
       bind_case (count p) (λ n. many_at item next n.0 s n.1) x e (λ n h0 e0.
       let a = counts p n fits h0 in
@@ -38,9 +40,9 @@ module _ {S A : Type 0} (item : S → Place → Read A) (next : S → A → S) (
       let both = took_then p (word n.0) n.1 (flat_map spell x.0) x.1 a.0 b.0 in
       (took_same p (word n.0 ++ flat_map spell x.0) (counted spell x.0) x.1 (ap (λ k. word k ++ flat_map spell x.0) (sym b.1.0)) both, (subst C (sym b.1.0) a.1, b.1.1)))
 
-  pub counted_again : ((n : ℕ) (p : Place) (rest : List ℕ) → C n → p.rest ≡ word n ++ rest → Gets (count p) n rest)
-      → ((s : S) (p : Place) (x : A) (rest : List ℕ) → Fits s x → p.rest ≡ spell x ++ rest → Gets (item s p) x rest)
-      → (xs : List A) (s : S) (p : Place) (rest : List ℕ) → Counts s xs → p.rest ≡ counted spell xs ++ rest → Gets (count p >>= λ n. many_at item next n.0 s n.1) xs rest
+  pub counted_again : ((n : ℕ) (p : Cursor) (rest : List ℕ) → C n → p.rest ≡ word n ++ rest → Gets (count p) n rest)
+      → ((s : S) (p : Cursor) (x : A) (rest : List ℕ) → Fits s x → p.rest ≡ spell x ++ rest → Gets (item s p) x rest)
+      → (xs : List A) (s : S) (p : Cursor) (rest : List ℕ) → Counts s xs → p.rest ≡ counted spell xs ++ rest → Gets (count p >>= λ n. many_at item next n.0 s n.1) xs rest
   counted_again counts again xs s p rest h e =
       gets_then (count p) (λ n. many_at item next n.0 s n.1) (length xs) (flat_map spell xs ++ rest) xs rest (counts (length xs) p (flat_map spell xs ++ rest) h.0 (e ∙ append_assoc (word (length xs)) (flat_map spell xs) rest))
       (λ q left. many_again item next spell Fits again xs s q rest h.1 left)
@@ -71,65 +73,65 @@ FitsNative t n = NativeFits t n × IsSizedNative n
 abbrev pub FitsDescriptor : ℕ → Descriptor → Type 0
 FitsDescriptor least d = DescriptorFits least d × IsSizedDescriptor d
 
-each_takes : (s : Unit {0}) (p : Place) (x : ℕ × Place) → IsBytes p.rest → each_word s p ≡ Ok x → Takes word IsWord p x
+each_takes : (s : Unit {0}) (p : Cursor) (x : ℕ × Cursor) → IsBytes p.rest → each_word s p ≡ Ok x → Takes word IsWord p x
 each_takes s p x fits e = word_takes p x fits e
 
-each_again : (s : Unit {0}) (p : Place) (w : ℕ) (rest : List ℕ) → IsWord w → p.rest ≡ word w ++ rest → Gets (each_word s p) w rest
+each_again : (s : Unit {0}) (p : Cursor) (w : ℕ) (rest : List ℕ) → IsWord w → p.rest ≡ word w ++ rest → Gets (each_word s p) w rest
 each_again s p w rest h e = word_again w p rest h e
 
-pub texts_take : (p : Place) (x : List (List ℕ) × Place) → IsBytes p.rest → texts_at p ≡ Ok x → Takes (counted text) (λ xs. ModuleCount (length xs) × Follow TextFits after_text MOST_TEXT_BYTES xs) p x
+pub texts_take : (p : Cursor) (x : List (List ℕ) × Cursor) → IsBytes p.rest → texts_at p ≡ Ok x → Takes (counted text) (λ xs. ModuleCount (length xs) × Follow TextFits after_text MOST_TEXT_BYTES xs) p x
 unfolding texts_at
 texts_take p x fits e = counted_takes text_at after_text text TextFits module_count_at ModuleCount module_count_takes text_takes MOST_TEXT_BYTES p x fits e
 
-pub texts_again : (xs : List (List ℕ)) (p : Place) (rest : List ℕ) → ModuleCount (length xs) × Follow TextFits after_text MOST_TEXT_BYTES xs → p.rest ≡ counted text xs ++ rest → Gets (texts_at p) xs rest
+pub texts_again : (xs : List (List ℕ)) (p : Cursor) (rest : List ℕ) → ModuleCount (length xs) × Follow TextFits after_text MOST_TEXT_BYTES xs → p.rest ≡ counted text xs ++ rest → Gets (texts_at p) xs rest
 unfolding texts_at
 texts_again xs p rest h e = counted_again text_at after_text text TextFits module_count_at ModuleCount module_count_again text_again xs MOST_TEXT_BYTES p rest h e
 
-pub atoms_take : (p : Place) (x : List (List ℕ) × Place) → IsBytes p.rest → atoms_at p ≡ Ok x → Takes (counted text) (λ xs. CountTo MOST_ATOMS (length xs) × Follow AtomFits and_atom [] xs) p x
+pub atoms_take : (p : Cursor) (x : List (List ℕ) × Cursor) → IsBytes p.rest → atoms_at p ≡ Ok x → Takes (counted text) (λ xs. CountTo MOST_ATOMS (length xs) × Follow AtomFits and_atom [] xs) p x
 unfolding atoms_at
 atoms_take p x fits e = counted_takes atom_at and_atom text AtomFits (count_at MOST_ATOMS) (CountTo MOST_ATOMS) (count_takes MOST_ATOMS) atom_takes [] p x fits e
 
-pub atoms_again : (xs : List (List ℕ)) (p : Place) (rest : List ℕ) → CountTo MOST_ATOMS (length xs) × Follow AtomFits and_atom [] xs → p.rest ≡ counted text xs ++ rest → Gets (atoms_at p) xs rest
+pub atoms_again : (xs : List (List ℕ)) (p : Cursor) (rest : List ℕ) → CountTo MOST_ATOMS (length xs) × Follow AtomFits and_atom [] xs → p.rest ≡ counted text xs ++ rest → Gets (atoms_at p) xs rest
 unfolding atoms_at
 atoms_again xs p rest h e = counted_again atom_at and_atom text AtomFits (count_at MOST_ATOMS) (CountTo MOST_ATOMS) (count_again MOST_ATOMS) atom_again xs [] p rest h e
 
-pub literals_take : (p : Place) (x : List (ℕ) × Place) → IsBytes p.rest → literals_at p ≡ Ok x → Takes (counted word) (λ xs. CountTo MOST_LITERALS (length xs) × Follow EachWord no_more tt xs) p x
+pub literals_take : (p : Cursor) (x : List (ℕ) × Cursor) → IsBytes p.rest → literals_at p ≡ Ok x → Takes (counted word) (λ xs. CountTo MOST_LITERALS (length xs) × Follow EachWord no_more tt xs) p x
 unfolding literals_at
 literals_take p x fits e = counted_takes each_word no_more word EachWord (count_at MOST_LITERALS) (CountTo MOST_LITERALS) (count_takes MOST_LITERALS) each_takes tt p x fits e
 
-pub literals_again : (xs : List (ℕ)) (p : Place) (rest : List ℕ) → CountTo MOST_LITERALS (length xs) × Follow EachWord no_more tt xs → p.rest ≡ counted word xs ++ rest → Gets (literals_at p) xs rest
+pub literals_again : (xs : List (ℕ)) (p : Cursor) (rest : List ℕ) → CountTo MOST_LITERALS (length xs) × Follow EachWord no_more tt xs → p.rest ≡ counted word xs ++ rest → Gets (literals_at p) xs rest
 unfolding literals_at
 literals_again xs p rest h e = counted_again each_word no_more word EachWord (count_at MOST_LITERALS) (CountTo MOST_LITERALS) (count_again MOST_LITERALS) each_again xs tt p rest h e
 
-pub roots_take : (p : Place) (x : List (ℕ) × Place) → IsBytes p.rest → roots_at p ≡ Ok x → Takes (counted word) (λ xs. IsWord (length xs) × Follow EachWord no_more tt xs) p x
+pub roots_take : (p : Cursor) (x : List (ℕ) × Cursor) → IsBytes p.rest → roots_at p ≡ Ok x → Takes (counted word) (λ xs. IsWord (length xs) × Follow EachWord no_more tt xs) p x
 unfolding roots_at
 roots_take p x fits e = counted_takes each_word no_more word EachWord word_at IsWord word_takes each_takes tt p x fits e
 
-pub roots_again : (xs : List (ℕ)) (p : Place) (rest : List ℕ) → IsWord (length xs) × Follow EachWord no_more tt xs → p.rest ≡ counted word xs ++ rest → Gets (roots_at p) xs rest
+pub roots_again : (xs : List (ℕ)) (p : Cursor) (rest : List ℕ) → IsWord (length xs) × Follow EachWord no_more tt xs → p.rest ≡ counted word xs ++ rest → Gets (roots_at p) xs rest
 unfolding roots_at
 roots_again xs p rest h e = counted_again each_word no_more word EachWord word_at IsWord word_again each_again xs tt p rest h e
 
-pub natives_take : (p : Place) (x : List (Native) × Place) → IsBytes p.rest → natives_at p ≡ Ok x → Takes (counted native) (λ xs. CountTo MOST_NATIVES (length xs) × Follow FitsNative after_native first_turn xs) p x
+pub natives_take : (p : Cursor) (x : List (Native) × Cursor) → IsBytes p.rest → natives_at p ≡ Ok x → Takes (counted native) (λ xs. CountTo MOST_NATIVES (length xs) × Follow FitsNative after_native first_turn xs) p x
 unfolding natives_at
 natives_take p x fits e = counted_takes native_at after_native native FitsNative (count_at MOST_NATIVES) (CountTo MOST_NATIVES) (count_takes MOST_NATIVES) native_takes first_turn p x fits e
 
-pub natives_again : (xs : List (Native)) (p : Place) (rest : List ℕ) → CountTo MOST_NATIVES (length xs) × Follow FitsNative after_native first_turn xs → p.rest ≡ counted native xs ++ rest → Gets (natives_at p) xs rest
+pub natives_again : (xs : List (Native)) (p : Cursor) (rest : List ℕ) → CountTo MOST_NATIVES (length xs) × Follow FitsNative after_native first_turn xs → p.rest ≡ counted native xs ++ rest → Gets (natives_at p) xs rest
 unfolding natives_at
 natives_again xs p rest h e = counted_again native_at after_native native FitsNative (count_at MOST_NATIVES) (CountTo MOST_NATIVES) (count_again MOST_NATIVES) native_again xs first_turn p rest h e
 
-pub code_take : (total : ℕ) (p : Place) (x : List (ℕ) × Place) → IsBytes p.rest → code_at total p ≡ Ok x → Takes (counted word) (λ xs. CodeCount total (length xs) × Follow EachWord no_more tt xs) p x
+pub code_take : (total : ℕ) (p : Cursor) (x : List (ℕ) × Cursor) → IsBytes p.rest → code_at total p ≡ Ok x → Takes (counted word) (λ xs. CodeCount total (length xs) × Follow EachWord no_more tt xs) p x
 unfolding code_at
 code_take total p x fits e = counted_takes each_word no_more word EachWord (code_count_at total) (CodeCount total) (code_count_takes total) each_takes tt p x fits e
 
-pub code_again : (total : ℕ) (xs : List (ℕ)) (p : Place) (rest : List ℕ) → CodeCount total (length xs) × Follow EachWord no_more tt xs → p.rest ≡ counted word xs ++ rest → Gets (code_at total p) xs rest
+pub code_again : (total : ℕ) (xs : List (ℕ)) (p : Cursor) (rest : List ℕ) → CodeCount total (length xs) × Follow EachWord no_more tt xs → p.rest ≡ counted word xs ++ rest → Gets (code_at total p) xs rest
 unfolding code_at
 code_again total xs p rest h e = counted_again each_word no_more word EachWord (code_count_at total) (CodeCount total) (code_count_again total) each_again xs tt p rest h e
 
-pub descriptors_take : (p : Place) (x : List (Descriptor) × Place) → IsBytes p.rest → descriptors_at p ≡ Ok x → Takes (counted descriptor) (λ xs. CountTo MOST_DESCRIPTORS (length xs) × Follow FitsDescriptor after_descriptor 0 xs) p x
+pub descriptors_take : (p : Cursor) (x : List (Descriptor) × Cursor) → IsBytes p.rest → descriptors_at p ≡ Ok x → Takes (counted descriptor) (λ xs. CountTo MOST_DESCRIPTORS (length xs) × Follow FitsDescriptor after_descriptor 0 xs) p x
 unfolding descriptors_at
 descriptors_take p x fits e = counted_takes descriptor_at after_descriptor descriptor FitsDescriptor (count_at MOST_DESCRIPTORS) (CountTo MOST_DESCRIPTORS) (count_takes MOST_DESCRIPTORS) descriptor_takes 0 p x fits e
 
-pub descriptors_again : (xs : List (Descriptor)) (p : Place) (rest : List ℕ) → CountTo MOST_DESCRIPTORS (length xs) × Follow FitsDescriptor after_descriptor 0 xs → p.rest ≡ counted descriptor xs ++ rest → Gets (descriptors_at p) xs rest
+pub descriptors_again : (xs : List (Descriptor)) (p : Cursor) (rest : List ℕ) → CountTo MOST_DESCRIPTORS (length xs) × Follow FitsDescriptor after_descriptor 0 xs → p.rest ≡ counted descriptor xs ++ rest → Gets (descriptors_at p) xs rest
 unfolding descriptors_at
 descriptors_again xs p rest h e = counted_again descriptor_at after_descriptor descriptor FitsDescriptor (count_at MOST_DESCRIPTORS) (CountTo MOST_DESCRIPTORS) (count_again MOST_DESCRIPTORS) descriptor_again xs 0 p rest h e
 
@@ -151,7 +153,7 @@ each_of_words : (ws : List ℕ) → AllByRecursion IsWord ws → Follow EachWord
 each_of_words [] h = tt
 each_of_words (w ∷ ws) h = (h.0, each_of_words ws h.1)
 
-pub parts_take : (p : Place) (x : Parts × Place) → IsBytes p.rest → parts_at p ≡ Ok x → Takes spelling (λ ps. IsFitting ps × IsSized ps) p x
+pub parts_take : (p : Cursor) (x : Parts × Cursor) → IsBytes p.rest → parts_at p ≡ Ok x → Takes spelling (λ ps. IsFitting ps × IsSized ps) p x
 unfolding parts_at
 parts_take p x fits e =
     bind_case (magic_at p) (λ magic. version_at magic.1 >>= λ version. texts_at version.1 >>= λ texts. atoms_at texts.1 >>= λ atoms. literals_at atoms.1 >>= λ literals. roots_at literals.1 >>= λ roots. natives_at roots.1 >>= λ natives. code_at (total_count natives.0) natives.1 >>= λ code. descriptors_at code.1 >>= λ descriptors. Ok (record { texts = texts.0; atoms = atoms.0; literals = literals.0; roots = roots.0; natives = natives.0; code = code.0; descriptors = descriptors.0 }, descriptors.1)) x e (λ magic h0 e0.
@@ -206,10 +208,10 @@ parts_take p x fits e =
       code = all_words code.0 t7.1.1;
       descriptors = follow-size DescriptorFits IsSizedDescriptor after_descriptor 0 descriptors.0 t8.1.1;
     } in
-    let made : Parts × Place = (record { texts = texts.0; atoms = atoms.0; literals = literals.0; roots = roots.0; natives = natives.0; code = code.0; descriptors = descriptors.0 }, descriptors.1) in
-    subst (λ (y : Parts × Place). Takes spelling (λ ps. IsFitting ps × IsSized ps) p y) (ok_is made x e8) (whole, (fitting, sized)))))))))))
+    let made : Parts × Cursor = (record { texts = texts.0; atoms = atoms.0; literals = literals.0; roots = roots.0; natives = natives.0; code = code.0; descriptors = descriptors.0 }, descriptors.1) in
+    subst (λ (y : Parts × Cursor). Takes spelling (λ ps. IsFitting ps × IsSized ps) p y) (ok_is made x e8) (whole, (fitting, sized)))))))))))
 
-pub parts_again : (p : Place) (ps : Parts) (rest : List ℕ) → IsFitting ps → IsSized ps → p.rest ≡ spelling ps ++ rest → Gets (parts_at p) ps rest
+pub parts_again : (p : Cursor) (ps : Parts) (rest : List ℕ) → IsFitting ps → IsSized ps → p.rest ≡ spelling ps ++ rest → Gets (parts_at p) ps rest
 unfolding parts_at
 parts_again p ps rest f z e =
     let parts : p.rest ≡ word MAGIC ++ (word VERSION ++ (counted text ps.texts ++ (counted text ps.atoms ++ (counted word ps.literals ++ (counted word ps.roots ++ (counted native ps.natives ++ (counted word ps.code ++ (counted descriptor ps.descriptors ++ rest)))))))) = e

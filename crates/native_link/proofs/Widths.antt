@@ -7,7 +7,7 @@ use Rattle.std.proofs.lemmas.List.{length-append, take_more, flat_map_more}
 use Rattle.std.proofs.lemmas.List.Elements.{All-from_recursion, All-more}
 use Rattle.std.proofs.lemmas.Str.{chars-encodes, length-encode, len_utf8_bounds}
 use Rattle.term_tree.specs.Name.{characters_in}
-use Rattle.native_link.specs.Follow.{Follow}
+use Rattle.tagged_words.specs.Follow.{Follow}
 use Rattle.native_link.specs.Fitting.{total_length}
 
 recursion_from_follow : {S A : Type 0} (P : S → A → Type 0) (next : S → A → S) (Q : A → Type 0) → ((s : S) (x : A) → P s x → Q x) → (s : S) (xs : List A) → Follow P next s xs → AllByRecursion Q xs

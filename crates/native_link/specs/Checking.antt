@@ -8,8 +8,9 @@ use Rattle.native_link.specs.declared.parts.Native.{Native}
 use Rattle.native_link.specs.declared.parts.Parts.{Parts}
 use Rattle.native_link.specs.declared.refusal.ImageRefusal.{ImageRefusal}
 use Rattle.native_link.specs.declared.refusal.ImageRefusal.TheVariants.{Value}
-use Rattle.native_link.specs.Known.{reserved, begins, knows_module}
-use Rattle.native_link.specs.Place.{◌>>=◌}
+use Rattle.tagged_words.specs.Atoms.{begins, first_atoms}
+use Rattle.native_link.specs.Known.{knows_module}
+use Rattle.native_link.specs.Cursor.{◌>>=◌}
 use Rattle.native_link.specs.Spelling.{word, text, counted}
 
 -- where the count of the atoms stands: behind the bytes of the fields before it
@@ -23,7 +24,7 @@ native_offset p i =
 
 -- the table begins as each image's does, and has each atom that the modules name
 abbrev pub has_atoms : List (List ℕ) → List Module → Bool
-has_atoms table ms = begins reserved table && list_all (knows_module table) ms
+has_atoms table ms = begins first_atoms table && list_all (knows_module table) ms
 
 -- a native function of no module
 abbrev pub is_foreign : ℕ → Native → Bool

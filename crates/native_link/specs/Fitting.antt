@@ -3,25 +3,20 @@ use Rattle.std.specs.Prelude.{ℕ, ◌≡◌, ◌+◌, ◌^◌, ◌<◌, ◌≤�
 use Rattle.std.specs.List.{AllByRecursion}
 use Rattle.beam_code.specs.declared.module.HandlerKind.{HandlerKind}
 use Rattle.beam_code.specs.declared.module.HandlerKind.TheVariants as kinds
-use Rattle.native_link.specs.declared.limits.TheConstants.{MOST_MODULES, MOST_TEXT_BYTES, MOST_ATOMS, MOST_LITERALS, MOST_NATIVES, MOST_CODE, MOST_DESCRIPTORS, MOST_FRAME}
+use Rattle.beam_code.specs.declared.module.TheConstants.{MOST_TEXT_BYTES}
+use Rattle.native_link.specs.declared.limits.TheConstants.{MOST_MODULES, MOST_ATOMS, MOST_LITERALS, MOST_NATIVES, MOST_CODE, MOST_DESCRIPTORS, MOST_FRAME}
 use Rattle.native_link.specs.declared.parts.Parts.{Parts}
 use Rattle.native_link.specs.declared.parts.Native.{Native}
 use Rattle.native_link.specs.declared.parts.Descriptor.{Descriptor}
-use Rattle.native_link.specs.Follow.{Follow}
+use Rattle.tagged_words.specs.Follow.{Follow}
 use Rattle.native_link.specs.Mask.{Ascends}
-use Rattle.native_link.specs.Atoms.{is_name, is_among}
+use Rattle.tagged_words.specs.Atoms.{IsNew, and_atom}
+use Rattle.term_tree.specs.Name.{is_name}
 
 -- how many bytes all texts have together
 abbrev pub total_length : List (List ℕ) → ℕ
 total_length [] = 0
 total_length (t ∷ ts) = length t + total_length ts
-
--- an atom is none of the earlier ones
-abbrev pub IsNew : List (List ℕ) → List ℕ → Type 0
-IsNew earlier atom = is_among atom earlier ≡ false
-
-abbrev pub and_atom : List (List ℕ) → List ℕ → List (List ℕ)
-and_atom earlier atom = earlier ++ atom ∷ []
 
 -- the least number that the next function may have, and the place of its first code word
 pub record Turn : Type 0 where

@@ -9,11 +9,6 @@ use Rattle.native_link.specs.Checking.{Linked, checking}
 use Rattle.native_link.specs.Fitting.{IsFitting, IsSized}
 use Rattle.native_link.specs.Reading.{reading}
 
-pub record IsLinked (l : Linked) : Type 0 where
-  pub fitting : IsFitting l.parts
-  pub sized : IsSized l.parts
-  pub checked : checking l.parts l.modules ≡ Ok tt
-
 -- the text is plain, and this is its module; or it is not plain
 abbrev pub IsModuleOf : List ℕ → Option Module → Type 0
 IsModuleOf text (Some m) = IsPlainText text m
@@ -25,6 +20,13 @@ AreReadings [] [] = Unit {0}
 AreReadings [] (m ∷ ms) = ⊥
 AreReadings (t ∷ ts) [] = ⊥
 AreReadings (t ∷ ts) (m ∷ ms) = IsModuleOf t (Some m) × AreReadings ts ms
+
+-- what an image keeps true: the parts meet the rules, the modules are those of the texts, and they ask no more
+pub record IsLinked (l : Linked) : Type 0 where
+  pub fitting : IsFitting l.parts
+  pub sized : IsSized l.parts
+  pub read : AreReadings l.parts.texts l.modules
+  pub checked : checking l.parts l.modules ≡ Ok tt
 
 -- some text is that of no module
 abbrev pub SomeUnread : List (List ℕ) → Type 0

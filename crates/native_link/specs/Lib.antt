@@ -1,11 +1,10 @@
-pub mod Atoms
-pub mod Follow
 pub mod Mask
 pub mod Spelling
 pub mod Fitting
-pub mod Place
+pub mod Cursor
 pub mod Reading
 pub mod Lookup
 pub mod Known
 pub mod Checking
 pub mod Image
+pub mod Numbers

@@ -2,76 +2,33 @@
 
 ghost use Rattle.beam_code.specs.Function.{all_functions};
 ghost use Rattle.native_link.specs.Checking.{atom_count_offset, native_offset, has_atoms, is_foreign, checking, linked};
-ghost use Rattle.native_link.specs.Fitting.{IsFitting, IsSized, IsNew, and_atom};
-ghost use Rattle.native_link.specs.Follow.{Follow};
-ghost use Rattle.native_link.specs.Known.{reserved, begins};
-ghost use Rattle.native_link.specs.Place.{Gives};
+ghost use Rattle.native_link.specs.Fitting.{IsFitting, IsSized};
+ghost use Rattle.tagged_words.specs.Follow.{Follow};
+ghost use Rattle.tagged_words.specs.Atoms.{IsNew, and_atom, begins, first_atoms};
+ghost use Rattle.native_link.specs.Cursor.{Gives};
 ghost use Rattle.native_link.specs.Spelling.{text, spelling};
-ghost use Rattle.native_link.specs.declared.limits.TheConstants.{MOST_IMAGE_BYTES};
-ghost use Rattle.std.specs.Cmp.Lexicographic.{pointwise};
+ghost use Rattle.native_link.specs.declared.limits.TheConstants.{MOST_ATOMS, MOST_IMAGE_BYTES};
 ghost use Rattle.std.specs.List.{flat_map};
 ghost use Rattle.std.specs.Prelude.{◌≡◌, ◌==◌, ◌<◌, ◌≤◌, [], Ok, IfOk, length, map, position};
 
-use crate::known::{are_modules_known, table_of};
+use crate::known::are_modules_known;
 use crate::reader::padding_of;
 use crate::{ImageRefusal, Native, Parts};
 use beam_code::Module;
 use sqlite_items::Items;
 use std::alloc::{AllocError, Global};
+use tagged_words::{Atoms, has_first_atoms};
 use term_tree::Name;
 
-/// The atoms that each image begins with.
-const RESERVED: [&str; 14] = [
-    "error",
-    "exit",
-    "throw",
-    "EXIT",
-    "true",
-    "false",
-    "badarith",
-    "badarg",
-    "function_clause",
-    "if_clause",
-    "undef",
-    "badmatch",
-    "case_clause",
-    "try_clause",
-];
-
-fn is_word(word: &str, atom: &Name) -> bool
-    ensures { result ≡ pointwise ◌==◌ word.now atom.now }
-{
-    word == atom.as_str()
-}
-
-fn begin_with(atoms: &[Name], words: &[&str]) -> bool
-    ensures { result ≡ begins (map (λ w. w.now) words.now) atoms.now }
-{
-    if atoms.len() < words.len() {
-        return false;
-    }
-    for i in 0..words.len() {
-        if !is_word(words[i], &atoms[i]) {
-            return false;
-        }
-    }
-    true
-}
-
-fn begin_as_reserved(atoms: &[Name]) -> bool
-    ensures { result ≡ begins reserved atoms.now }
-{
-    begin_with(atoms, &RESERVED)
-}
-
 fn has_all_atoms(alloc: Global, atoms: &[Name], modules: &[Module]) -> Result<bool, AllocError>
-    requires { Follow IsNew and_atom [] atoms.now }
+    requires distinct { Follow IsNew and_atom [] atoms.now }
+    requires few { length atoms.now ≤ MOST_ATOMS }
     ensures { IfOk result (λ b. b ≡ has_atoms atoms.now modules.now) }
 {
-    if !begin_as_reserved(atoms) {
+    if !has_first_atoms(atoms) {
         return Ok(false);
     }
-    let table = table_of(alloc, atoms)?;
+    let table = Atoms::of(alloc, atoms)?;
     Ok(are_modules_known(&table, modules))
 }
 

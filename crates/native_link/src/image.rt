@@ -2,12 +2,12 @@
 
 ghost use Rattle.native_link.specs.Checking.{checked_image};
 ghost use Rattle.native_link.specs.Fitting.{IsFitting, IsSized, total_length, NativeFits, after_native, first_turn, DescriptorFits, after_descriptor};
-ghost use Rattle.native_link.specs.Follow.{Follow};
-ghost use Rattle.native_link.specs.Image.{IsModuleOf, TextsRead, Built, Answers, has_more};
+ghost use Rattle.tagged_words.specs.Follow.{Follow};
+ghost use Rattle.native_link.specs.Image.{AreReadings, IsModuleOf, TextsRead, Built, Answers, has_more};
 ghost use Rattle.native_link.specs.Lookup.{native_of, native_entry_of, descriptor_of, Splits};
-ghost use Rattle.native_link.specs.Place.{Gives};
+ghost use Rattle.native_link.specs.Cursor.{Gives};
 ghost use Rattle.native_link.specs.Spelling.{spelling};
-ghost use Rattle.native_link.specs.declared.limits.TheConstants.{MOST_IMAGE_BYTES, MOST_TEXT_BYTES};
+ghost use Rattle.native_link.specs.declared.limits.TheConstants.{MOST_IMAGE_BYTES};
 ghost use Rattle.std.specs.Option.{option_copied};
 ghost use Rattle.std.specs.Prelude.{◌≡◌, ◌≤◌, All, IfOk, length};
 
@@ -15,11 +15,12 @@ use crate::checking::check_modules;
 use crate::reading::read_parts;
 use crate::{CODE_START, Descriptor, ImageRefusal, Native, Parts};
 use asm_text::TextRefusal;
-use beam_code::Module;
+use beam_code::{MOST_TEXT_BYTES, Module};
 use plain_text::read_plain;
 use sqlite_items::Items;
 use std::alloc::{AllocError, Global};
 use std::marker::Model;
+use tagged_words::Atoms;
 
 /// The parts of an image that was read, with the modules of its texts. Contracts see both.
 #[derive(Drop, Debug)]
@@ -44,14 +45,12 @@ impl Model for Image {
     ghost invariant = { λ i. IsLinked (linked i.parts i.modules) };
 }
 
-/// The image of these parts and modules, where the modules ask no more of the parts.
-pub fn check_parts(
-    alloc: Global,
-    parts: Parts,
-    modules: Items<Module>,
-) -> Result<Image, ImageRefusal>
+/// The image of these parts and the modules of their texts, where the modules ask no more of the
+/// parts.
+fn check_parts(alloc: Global, parts: Parts, modules: Items<Module>) -> Result<Image, ImageRefusal>
     requires fitting { IsFitting parts }
     requires sized { IsSized parts }
+    requires read { AreReadings parts.texts modules }
     requires size { length (spelling parts) ≤ MOST_IMAGE_BYTES }
     ensures { Gives (λ i. i) result (checked_image parts modules) }
 {
@@ -189,6 +188,13 @@ impl Image {
         ensures { result.now ≡ self.now.modules }
     {
         self.modules.as_slice()
+    }
+
+    /// The atoms of the image by number.
+    pub fn atoms(&self, alloc: Global) -> Result<Atoms, AllocError>
+        ensures { IfOk result (λ atoms. atoms ≡ self.now.parts.atoms) }
+    {
+        Atoms::of(alloc, self.parts.atoms.as_slice())
     }
 
     /// The address of the native code of a function, if it is in native form.

@@ -6,8 +6,6 @@ pub const MAGIC: u32 = 0x48495045;
 pub const VERSION: u32 = 1;
 /// The most modules of an image.
 pub const MOST_MODULES: u32 = 16_384;
-/// The most bytes of all texts together.
-pub const MOST_TEXT_BYTES: u32 = 4_194_304;
 /// The most atoms of an image.
 pub const MOST_ATOMS: u32 = 33_554_432;
 /// The most literal words of an image.
@@ -20,8 +18,6 @@ pub const MOST_CODE: u32 = 16_777_216;
 pub const MOST_DESCRIPTORS: u32 = 1_048_576;
 /// The most words of a frame.
 pub const MOST_FRAME: u32 = 513;
-/// The most characters of an atom.
-pub const MOST_CHARACTERS: usize = 255;
 /// The most bytes of an image that is read.
 pub const MOST_IMAGE_BYTES: usize = 536_870_912;
 /// The address of the first code word of an image.

@@ -1,6 +1,6 @@
 ghost use Rattle.beam_code.specs.declared.module.HandlerKind.{HandlerKind};
 ghost use Rattle.native_link.specs.Fitting.{is_handler};
-ghost use Rattle.native_link.specs.Place.{Gives, Reads, start};
+ghost use Rattle.native_link.specs.Cursor.{Gives, Reads, start};
 ghost use Rattle.native_link.specs.Reading.{word_at, magic_at, version_at, count_at, module_count_at, order_at, bytes_at, first_at, some_at, code_count_at, frame_at, kind_of, kind_at, handler_at, end_at};
 ghost use Rattle.native_link.specs.Spelling.{padding};
 ghost use Rattle.native_link.specs.declared.limits.TheConstants.{MOST_IMAGE_BYTES};
@@ -20,10 +20,10 @@ pub(crate) struct Reader<'a> {
 
 impl<'a> Model for Reader<'a> {
     ghost use Rattle.std.specs.Prelude.{◌+◌, ◌≤◌, length};
-    ghost use Rattle.native_link.specs.Place.{Place};
+    ghost use Rattle.native_link.specs.Cursor.{Cursor};
     ghost use Rattle.native_link.specs.declared.limits.TheConstants.{MOST_IMAGE_BYTES};
 
-    ghost Value = { Place };
+    ghost Value = { Cursor };
 
     ghost view = { λ r. record { rest = r.rest.now; at = r.at } };
 

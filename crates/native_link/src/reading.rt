@@ -1,21 +1,23 @@
 ghost use Rattle.beam_code.specs.declared.module.HandlerKind.{HandlerKind};
 ghost use Rattle.indexmap.specs.IndexSet.{keys};
-ghost use Rattle.native_link.specs.Atoms.{is_name};
-ghost use Rattle.native_link.specs.Fitting.{IsFitting, IsSized, turn, after_native, and_atom, after_descriptor, first_turn, total_count};
+ghost use Rattle.term_tree.specs.Name.{is_name};
+ghost use Rattle.tagged_words.specs.Atoms.{and_atom};
+ghost use Rattle.native_link.specs.Fitting.{IsFitting, IsSized, turn, after_native, after_descriptor, first_turn, total_count};
 ghost use Rattle.native_link.specs.Mask.{mask_words};
-ghost use Rattle.native_link.specs.Place.{Gives, Reads, many_at};
+ghost use Rattle.native_link.specs.Cursor.{Gives, Reads, many_at};
 ghost use Rattle.native_link.specs.Reading.{words_at, text_at, after_text, texts_at, new_atom, atom_at, atoms_at, literals_at, roots_at, native_at, natives_at, code_at, is_slot, slots_in, mask_word_at, slots_at, descriptor_at, descriptors_at, parts_at, reading};
 ghost use Rattle.native_link.specs.Spelling.{spelling};
 ghost use Rattle.native_link.specs.declared.parts.Parts.{Parts};
-ghost use Rattle.native_link.specs.declared.limits.TheConstants.{MOST_IMAGE_BYTES, MOST_TEXT_BYTES};
+ghost use Rattle.native_link.specs.declared.limits.TheConstants.{MOST_IMAGE_BYTES};
 ghost use Rattle.std.specs.List.{list_all};
 ghost use Rattle.std.specs.Prelude.{◌≡◌, ◌≤◌, ◌+◌, ◌^◌, ◌++◌, [], Some, None, Ok, length, OnOk, IfOk, if◌then◌else◌};
 
 use crate::reader::Reader;
 use crate::{
-    Descriptor, ImageRefusal, MOST_ATOMS, MOST_DESCRIPTORS, MOST_LITERALS, MOST_NATIVES,
-    MOST_TEXT_BYTES, Native, Parts,
+    Descriptor, ImageRefusal, MOST_ATOMS, MOST_DESCRIPTORS, MOST_LITERALS, MOST_NATIVES, Native,
+    Parts,
 };
+use beam_code::MOST_TEXT_BYTES;
 use indexmap::IndexSet;
 use sqlite_items::Items;
 use std::alloc::{AllocError, Global};
@@ -51,7 +53,7 @@ fn many_texts(
     ensures { Reads (λ v. v) result reader.new (many_at text_at after_text count MOST_TEXT_BYTES reader.old) }
 {
     let mut texts = Items::new(alloc);
-    let mut room = MOST_TEXT_BYTES as usize;
+    let mut room = MOST_TEXT_BYTES;
     for _ in 0..count {
         let text = text_of(alloc, reader, room)?;
         room = room.saturating_sub(text.len());

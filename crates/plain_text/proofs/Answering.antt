@@ -2,8 +2,8 @@
 use Rattle.std.proofs.Common.{◌≡◌, ℕ, ℤ, pos, ◌+◌, ◌*◌, ◌≤◌, ◌<◌, true, false, ◌&&◌, List, [], ◌∷◌, length, map, codes, Some, None, Ok, refl, sym, ap, ◌∙◌, arith, ◌++◌, Result}
 use Rattle.std.specs.List.{list_all}
 use Rattle.std.proofs.lemmas.Bool.{and_from, lt-ltb}
-use Rattle.asm_text.specs.declared.stand.Form.{Form}
-use Rattle.asm_text.specs.declared.token.TextRefusal.{TextRefusal}
+use Rattle.text_forms.specs.declared.form.Form.{Form}
+use Rattle.text_forms.specs.declared.refusal.TextRefusal.{TextRefusal}
 use Rattle.asm_text.specs.Reading.{reading}
 use Rattle.asm_text.proofs.FewForms.{forms_few, forms_weigh, least, least-Tuple, weight}
 use Rattle.asm_text.proofs.NextCanonical.{list_all-joined}
@@ -18,7 +18,8 @@ use Rattle.plain_text.specs.declared.plain.Constant.{Constant}
 use Rattle.plain_text.specs.declared.plain.Plain.{Plain}
 use Rattle.plain_text.specs.Forms.{form_term, terms_of, head_terms, export_term, function_terms, functions_terms, header_term, label_term, info_term, move_term, tagged, number, info_label, entry_label}
 use Rattle.plain_text.specs.Guess.{guess_of}
-use Rattle.plain_text.specs.Plain.{is_name, is_fine, is_plain, are_new, name_of}
+use Rattle.plain_text.specs.Plain.{is_fine, is_plain, are_new, name_of}
+use Rattle.term_tree.specs.Name.{is_name}
 use Rattle.plain_text.specs.Module.{module_of}
 use Rattle.plain_text.specs.Reading.{IsOtherText, IsPlainText}
 use Rattle.beam_code.specs.declared.module.Module.{Module}

@@ -5,7 +5,7 @@ use Rattle.std.proofs.lemmas.Grind.{common_steps}
 use Rattle.std.proofs.lemmas.List.{take_all}
 use Rattle.std.specs.List.{list_all}
 use Rattle.std.proofs.lemmas.Bool.{and_from}
-use Rattle.asm_text.specs.declared.stand.Form.{Form}
+use Rattle.text_forms.specs.declared.form.Form.{Form}
 use Rattle.term_tree.specs.declared.term.Term as t
 use Rattle.term_tree.specs.declared.term.Term.{Term, out-Term, roll-Term, out-roll-Term}
 use Rattle.term_tree.specs.declared.term.Term.TheOpen.{Term-F}
@@ -16,7 +16,8 @@ use Rattle.plain_text.specs.declared.plain.Constant.{Constant}
 use Rattle.plain_text.specs.declared.plain.Plain.{Plain}
 use Rattle.plain_text.specs.Forms.{form_term, terms_of, head_terms, export_term, functions_terms, header_term, move_term, tagged, info_label, entry_label}
 use Rattle.plain_text.specs.Guess.{element, element_in, atom_in, atom_of, integer_in, integer_of, named, valued, constant_with, constants_of, plain_with, guess_of}
-use Rattle.plain_text.specs.Plain.{is_name, is_fine, is_plain, are_new, name_of}
+use Rattle.plain_text.specs.Plain.{is_fine, is_plain, are_new, name_of}
+use Rattle.term_tree.specs.Name.{is_name}
 
 out-Tuple : (parts : List Term) → out-Term (t.Tuple parts) ≡ Term-F.Tuple parts
 unfolding roll-Term roll

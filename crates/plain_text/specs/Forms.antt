@@ -1,6 +1,6 @@
 -- The forms of a module whose functions each return one small integer (Erlang reference manual, Modules; docs/BEAM.md).
 use Rattle.std.specs.Prelude.{ℕ, ℤ, pos, ◌+◌, ◌*◌, List, [], ◌∷◌, ◌++◌, None, length, map, codes}
-use Rattle.asm_text.specs.declared.stand.Form.{Form}
+use Rattle.text_forms.specs.declared.form.Form.{Form}
 use Rattle.term_tree.specs.declared.term.Term as t
 use Rattle.term_tree.specs.declared.term.Term.{Term}
 use Rattle.plain_text.specs.declared.plain.Constant.{Constant}

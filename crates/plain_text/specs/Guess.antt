@@ -1,12 +1,12 @@
 -- The one module that forms can be those of, taken from a few places of them.
 use Rattle.std.specs.Prelude.{ℕ, ℤ, if◌then◌else◌, List, [], ◌∷◌, slice_get, Option, Some, None, option_and_then}
-use Rattle.asm_text.specs.declared.stand.Form.{Form}
+use Rattle.text_forms.specs.declared.form.Form.{Form}
 use Rattle.term_tree.specs.declared.term.Term.{Term, out-Term}
 use Rattle.term_tree.specs.declared.term.Term.TheOpen.{Term-F}
 use Rattle.term_tree.specs.Small.{is_small}
 use Rattle.plain_text.specs.declared.plain.Constant.{Constant}
 use Rattle.plain_text.specs.declared.plain.Plain.{Plain}
-use Rattle.plain_text.specs.Plain.{is_name}
+use Rattle.term_tree.specs.Name.{is_name}
 
 abbrev pub element_in : ℕ → Term-F Term → Option Term
 element_in k (Term-F.Tuple parts) = slice_get parts k

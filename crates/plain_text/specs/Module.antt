@@ -1,6 +1,6 @@
 -- The module with given forms (docs/BEAM.md).
 use Rattle.std.specs.Prelude.{ℕ, pos, ◌+◌, ◌*◌, List, [], ◌∷◌, map, get_or}
-use Rattle.asm_text.specs.declared.stand.Form.{Form}
+use Rattle.text_forms.specs.declared.form.Form.{Form}
 use Rattle.beam_code.specs.declared.module.Item.{Item}
 use Rattle.beam_code.specs.declared.module.Function.{Function}
 use Rattle.beam_code.specs.declared.module.Module.{Module}

@@ -1,21 +1,15 @@
 -- Which modules are plain (Erlang reference manual, Data Types, Atom).
-use Rattle.std.specs.Prelude.{ℕ, Bool, true, ◌&&◌, not, nat_lt, ◌==◌, List, [], ◌∷◌, ◌++◌, map}
+use Rattle.std.specs.Prelude.{ℕ, Bool, true, ◌&&◌, not, List, [], ◌∷◌, ◌++◌, map}
 use Rattle.std.specs.List.{list_all, list_any}
-use Rattle.std.specs.Str.{is_utf8}
-use Rattle.std.specs.Cmp.Lexicographic.{pointwise}
-use Rattle.term_tree.specs.Name.{characters_in}
+use Rattle.term_tree.specs.Name.{is_name, same_name}
 use Rattle.term_tree.specs.Small.{is_small}
 use Rattle.plain_text.specs.declared.plain.Constant.{Constant}
 use Rattle.plain_text.specs.declared.plain.Plain.{Plain}
 
--- whether bytes are the text of an atom: UTF-8 of at most 255 characters
-abbrev pub is_name : List ℕ → Bool
-is_name bytes = is_utf8 bytes && not (nat_lt 255 (characters_in bytes))
-
 -- each of these names is neither one of `earlier` nor one before it
 abbrev pub are_new : List (List ℕ) → List (List ℕ) → Bool
 are_new earlier [] = true
-are_new earlier (n ∷ ns) = not (list_any (pointwise ◌==◌ n) earlier) && are_new (earlier ++ n ∷ []) ns
+are_new earlier (n ∷ ns) = not (list_any (same_name n) earlier) && are_new (earlier ++ n ∷ []) ns
 
 abbrev pub name_of : Constant → List ℕ
 name_of c = c.name

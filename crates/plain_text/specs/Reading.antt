@@ -1,9 +1,9 @@
 -- What a text is read as: the module of a plain text, none where its forms are others, or why it has no forms
 -- (docs/BEAM.md).
 use Rattle.std.specs.Prelude.{ℕ, ◌≡◌, ◌≢◌, ◌⊎◌, IsTrue, List, map, Option, Some, None, Result, Ok, Err}
-use Rattle.asm_text.specs.declared.stand.Form.{Form}
-use Rattle.asm_text.specs.declared.token.TextRefusal.{TextRefusal}
-use Rattle.asm_text.specs.declared.token.TextRefusal.TheVariants.{Memory}
+use Rattle.text_forms.specs.declared.form.Form.{Form}
+use Rattle.text_forms.specs.declared.refusal.TextRefusal.{TextRefusal}
+use Rattle.text_forms.specs.declared.refusal.TextRefusal.TheVariants.{Memory}
 use Rattle.asm_text.specs.Reading.{reading}
 use Rattle.beam_code.specs.declared.module.Module.{Module}
 use Rattle.plain_text.specs.declared.plain.Plain.{Plain}

@@ -1,16 +1,28 @@
-ghost use Rattle.std.specs.Prelude.{◌≡◌, ◌+◌, ◌*◌, ◌<◌, ◌≤◌, IfOk, map, length};
+ghost use Rattle.std.specs.Prelude.{◌≡◌, ◌+◌, ◌*◌, ◌<◌, ◌≤◌, ◌∷◌, ◌++◌, [], IfOk, OnOk, map, length};
 ghost use Rattle.plain_text.specs.Module.{forms_before, items_of, functions_of, export_of, module_of};
 
-use crate::read::MOST_BYTES;
 use crate::{Constant, Plain};
 use asm_text::Form;
-use beam_code::{Function, Instr, Item, Module, Operand, Place};
+use beam_code::{Function, Instr, Item, MOST_TEXT_BYTES, Module, Operand, Place};
 use sqlite_items::Items;
 use std::alloc::{AllocError, Global};
 use term_tree::Name;
 
 /// The index, among a function's items, of the label where its calls begin.
 const ENTRY: u32 = 2;
+
+/// Adds an item.
+fn add(items: &mut Items<Item>, line: u32, instr: Instr) -> Result<(), AllocError>
+    ensures { OnOk result (items.new ≡ items.old ++ record { line = line; instr = instr } ∷ []) }
+{
+    items.push(Item { line, instr })
+}
+
+fn info(alloc: Global, owner: &Name, name: &Name) -> Result<Instr, AllocError>
+    ensures { IfOk result (λ instr. instr ≡ Instr.FuncInfo owner.now name.now 0) }
+{
+    Ok(Instr::FuncInfo(owner.copy(alloc)?, name.copy(alloc)?, 0))
+}
 
 /// The items of the function that `before` functions come before.
 fn items(
@@ -20,34 +32,33 @@ fn items(
     before: u32,
     constant: &Constant,
 ) -> Result<Items<Item>, AllocError>
-    requires few { before ≤ MOST_BYTES }
+    requires few { before ≤ MOST_TEXT_BYTES }
     requires there { forms_before before + 5 < length forms.now }
     ensures { IfOk result (λ all. all ≡ items_of forms.now owner.now before constant.now) }
 {
     let first = 4 + 6 * before as usize;
-    let info = Instr::FuncInfo(owner.copy(alloc)?, constant.name.copy(alloc)?, 0);
-    let value = Instr::Move(Operand::Int(constant.value), Place::X(0));
     let mut items = Items::new(alloc);
-    items.push(Item {
-        line: forms[first + 1].line,
-        instr: Instr::Label(2 * before + 1),
-    })?;
-    items.push(Item {
-        line: forms[first + 2].line,
-        instr: info,
-    })?;
-    items.push(Item {
-        line: forms[first + 3].line,
-        instr: Instr::Label(2 * before + 2),
-    })?;
-    items.push(Item {
-        line: forms[first + 4].line,
-        instr: value,
-    })?;
-    items.push(Item {
-        line: forms[first + 5].line,
-        instr: Instr::Return,
-    })?;
+    add(
+        &mut items,
+        forms[first + 1].line,
+        Instr::Label(2 * before + 1),
+    )?;
+    add(
+        &mut items,
+        forms[first + 2].line,
+        info(alloc, owner, &constant.name)?,
+    )?;
+    add(
+        &mut items,
+        forms[first + 3].line,
+        Instr::Label(2 * before + 2),
+    )?;
+    add(
+        &mut items,
+        forms[first + 4].line,
+        Instr::Move(Operand::Int(constant.value), Place::X(0)),
+    )?;
+    add(&mut items, forms[first + 5].line, Instr::Return)?;
     Ok(items)
 }
 
@@ -57,7 +68,7 @@ fn functions(
     owner: &Name,
     constants: &[Constant],
 ) -> Result<Items<Function>, AllocError>
-    requires few { length constants.now ≤ MOST_BYTES }
+    requires few { length constants.now ≤ MOST_TEXT_BYTES }
     requires there { forms_before (length constants.now) ≤ length forms.now }
     ensures { IfOk result (λ all. all ≡ functions_of forms.now owner.now 0 constants.now) }
 {
@@ -92,7 +103,7 @@ pub fn module(
     forms: &[Form],
     plain: Plain,
 ) -> Result<Module, AllocError>
-    requires few { length plain.constants ≤ MOST_BYTES }
+    requires few { length plain.constants ≤ MOST_TEXT_BYTES }
     requires there { forms_before (length plain.constants) ≤ length forms.now }
     ensures { IfOk result (λ m. m ≡ module_of text.now forms.now plain) }
 {

@@ -10,7 +10,4 @@ mod same;
 mod terms;
 
 pub use plain::{Constant, Plain};
-pub use read::{MOST_BYTES, read_plain};
-
-#[cfg(test)]
-mod tests;
+pub use read::read_plain;

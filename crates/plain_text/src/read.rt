@@ -10,15 +10,12 @@ use crate::names::are_distinct;
 use crate::same::have_terms;
 use crate::terms::terms_of;
 use asm_text::{Form, TextRefusal, read_forms};
-use beam_code::Module;
+use beam_code::{MOST_TEXT_BYTES, Module};
 use std::alloc::{AllocError, Global};
-
-/// The most bytes of a text that is read.
-pub const MOST_BYTES: usize = 4_194_304;
 
 /// The module with these forms, where they are those of a plain text.
 fn module_in(alloc: Global, text: &[u8], forms: &[Form]) -> Result<Option<Module>, AllocError>
-    requires short { length text.now ≤ MOST_BYTES }
+    requires short { length text.now ≤ MOST_TEXT_BYTES }
     requires canonical { IsTrue (list_all has_canonical forms.now) }
     requires read { reading text.now ≡ Ok forms.now }
     ensures { IfOk result (λ m. IsReading text.now (Ok m)) }
@@ -40,7 +37,7 @@ fn module_in(alloc: Global, text: &[u8], forms: &[Form]) -> Result<Option<Module
 /// The module with this text, where it is a plain text, and none where its forms are others; or why
 /// the text has no forms.
 pub fn read_plain(alloc: Global, text: &[u8]) -> Result<Option<Module>, TextRefusal>
-    requires { length text.now ≤ MOST_BYTES }
+    requires { length text.now ≤ MOST_TEXT_BYTES }
     ensures { IsReading text.now result }
 {
     let forms = read_forms(alloc, text)?;

@@ -2,15 +2,15 @@
 ghost use Rattle.std.specs.Prelude.{◌≡◌, ◌++◌, ◌∷◌, ◌<◌, ◌≤◌, [], IfOk, codes, length, map};
 ghost use Rattle.plain_text.specs.Forms as forms;
 
-use crate::read::MOST_BYTES;
 use crate::{Constant, Plain};
+use beam_code::MOST_TEXT_BYTES;
 use sqlite_items::Items;
 use std::alloc::{AllocError, Global};
-use term_tree::{Name, Term};
+use term_tree::{MOST_CHARACTERS, Name, Term};
 
-/// An atom with a text of at most 255 bytes.
+/// An atom with a text of no more bytes than an atom may have characters.
 fn word(alloc: Global, text: &str) -> Result<Term, AllocError>
-    requires { length text.now ≤ 255 }
+    requires { length text.now ≤ MOST_CHARACTERS }
     ensures { IfOk result (λ term. term ≡ Term.Atom text.now) }
 {
     Ok(Term::Atom(Name::from_short(alloc, text)?))
@@ -24,7 +24,7 @@ fn atom(alloc: Global, name: &Name) -> Result<Term, AllocError>
 
 /// `{tag,first}`
 fn pair(alloc: Global, tag: &str, first: Term) -> Result<Term, AllocError>
-    requires { length tag.now ≤ 255 }
+    requires { length tag.now ≤ MOST_CHARACTERS }
     ensures { IfOk result (λ term. term ≡ forms.tagged tag.now (first ∷ [])) }
 {
     let mut parts = Items::new(alloc);
@@ -35,7 +35,7 @@ fn pair(alloc: Global, tag: &str, first: Term) -> Result<Term, AllocError>
 
 /// `{tag,first,second}`
 fn triple(alloc: Global, tag: &str, first: Term, second: Term) -> Result<Term, AllocError>
-    requires { length tag.now ≤ 255 }
+    requires { length tag.now ≤ MOST_CHARACTERS }
     ensures { IfOk result (λ term. term ≡ forms.tagged tag.now (first ∷ second ∷ [])) }
 {
     let mut parts = Items::new(alloc);
@@ -53,7 +53,7 @@ fn quadruple(
     second: Term,
     third: Term,
 ) -> Result<Term, AllocError>
-    requires { length tag.now ≤ 255 }
+    requires { length tag.now ≤ MOST_CHARACTERS }
     ensures { IfOk result (λ term. term ≡ forms.tagged tag.now (first ∷ second ∷ third ∷ [])) }
 {
     let mut parts = Items::new(alloc);
@@ -127,7 +127,7 @@ fn function_terms(
     before: u32,
     constant: &Constant,
 ) -> Result<Items<Term>, AllocError>
-    requires { before ≤ MOST_BYTES }
+    requires { before ≤ MOST_TEXT_BYTES }
     ensures { IfOk result (λ terms. terms ≡ forms.function_terms owner.now before constant.now) }
 {
     let mut terms = Items::new(alloc);
@@ -172,7 +172,7 @@ fn head_terms(
 
 /// The forms of a module.
 pub fn terms_of(alloc: Global, plain: &Plain) -> Result<Items<Term>, AllocError>
-    requires { length plain.now.constants ≤ MOST_BYTES }
+    requires { length plain.now.constants ≤ MOST_TEXT_BYTES }
     ensures { IfOk result (λ terms. terms ≡ forms.terms_of plain.now) }
 {
     let exports = exports(alloc, plain.constants.as_slice())?;

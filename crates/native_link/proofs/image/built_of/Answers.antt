@@ -1,4 +1,4 @@
-use Rattle.native_link.specs.declared.limits.TheConstants.{MOST_TEXT_BYTES}
+use Rattle.beam_code.specs.declared.module.TheConstants.{MOST_TEXT_BYTES}
 use Rattle.native_link.proofs.Second.{all_within}
 use Rattle.native_link.proofs.image.built_of.Goals as goal
 

@@ -1,10 +1,11 @@
 use Rattle.std.proofs.Common.{[], ◌∙◌}
 use Rattle.std.proofs.lemmas.Result.{err_from_is_err_and}
-use Rattle.native_link.specs.Place.{many_at}
+use Rattle.native_link.specs.Cursor.{many_at}
 use Rattle.native_link.specs.Reading.{atom_at}
 use Rattle.indexmap.specs.IndexSet.{keys}
-use Rattle.native_link.specs.Fitting.{and_atom}
-use Rattle.native_link.proofs.Kept.{atom_is_new, insert_new}
+use Rattle.tagged_words.specs.Atoms.{and_atom}
+use Rattle.native_link.proofs.Kept.{atom_is_new}
+use Rattle.tagged_words.proofs.Tables.{insert_new}
 use Rattle.native_link.proofs.Loop.{goes_on, ends, is_done}
 use Rattle.native_link.proofs.reading.many_atoms.Goals as goal
 

@@ -1,8 +1,8 @@
 use Rattle.std.proofs.Common.{◌≡◌, ◌-◌, []}
-use Rattle.native_link.specs.Place.{many_at}
+use Rattle.native_link.specs.Cursor.{many_at}
 use Rattle.native_link.specs.Reading.{atom_at}
 use Rattle.indexmap.specs.IndexSet.{keys}
-use Rattle.native_link.specs.Fitting.{and_atom}
+use Rattle.tagged_words.specs.Atoms.{and_atom}
 use Rattle.native_link.proofs.Loop.{with_front}
 use Rattle.native_link.proofs.reading.many_atoms.Given as goal
 

@@ -1,5 +1,5 @@
 use Rattle.std.proofs.lemmas.Result.{err_from_is_err_and}
-use Rattle.native_link.specs.Place.{many_at}
+use Rattle.native_link.specs.Cursor.{many_at}
 use Rattle.native_link.specs.Reading.{descriptor_at}
 use Rattle.native_link.specs.Fitting.{after_descriptor}
 use Rattle.native_link.proofs.Loop.{goes_on, ends, is_done}

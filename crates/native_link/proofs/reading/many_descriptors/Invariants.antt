@@ -1,5 +1,5 @@
 use Rattle.std.proofs.Common.{◌≡◌, ◌-◌}
-use Rattle.native_link.specs.Place.{many_at}
+use Rattle.native_link.specs.Cursor.{many_at}
 use Rattle.native_link.specs.Reading.{descriptor_at}
 use Rattle.native_link.specs.Fitting.{after_descriptor}
 use Rattle.native_link.proofs.Loop.{with_front}

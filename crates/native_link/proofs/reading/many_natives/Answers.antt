@@ -1,7 +1,7 @@
 use Rattle.std.proofs.Common.{arith}
 use Rattle.std.proofs.lemmas.Result.{err_from_is_err_and}
 use Rattle.native_link.specs.Fitting.{turn, after_native, first_turn}
-use Rattle.native_link.specs.Place.{many_at}
+use Rattle.native_link.specs.Cursor.{many_at}
 use Rattle.native_link.specs.Reading.{native_at}
 use Rattle.native_link.proofs.Kept.{native_place, total_count-push}
 use Rattle.native_link.proofs.Loop.{goes_on, ends, is_done}

@@ -1,6 +1,6 @@
 use Rattle.std.proofs.Common.{◌≡◌, ◌-◌}
 use Rattle.native_link.specs.Fitting.{turn, after_native, first_turn, total_count}
-use Rattle.native_link.specs.Place.{many_at}
+use Rattle.native_link.specs.Cursor.{many_at}
 use Rattle.native_link.specs.Reading.{native_at}
 use Rattle.native_link.proofs.Loop.{with_front}
 use Rattle.native_link.proofs.reading.many_natives.Given as goal

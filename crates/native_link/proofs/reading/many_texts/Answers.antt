@@ -1,7 +1,7 @@
 use Rattle.std.proofs.lemmas.Result.{err_from_is_err_and}
-use Rattle.native_link.specs.Place.{many_at}
+use Rattle.native_link.specs.Cursor.{many_at}
 use Rattle.native_link.specs.Reading.{text_at, after_text}
-use Rattle.native_link.specs.declared.limits.TheConstants.{MOST_TEXT_BYTES}
+use Rattle.beam_code.specs.declared.module.TheConstants.{MOST_TEXT_BYTES}
 use Rattle.native_link.proofs.Loop.{goes_on, ends, is_done}
 use Rattle.native_link.proofs.reading.many_texts.Goals as goal
 

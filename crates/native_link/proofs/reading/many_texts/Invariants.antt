@@ -1,7 +1,7 @@
 use Rattle.std.proofs.Common.{◌≡◌, ◌-◌}
-use Rattle.native_link.specs.Place.{many_at}
+use Rattle.native_link.specs.Cursor.{many_at}
 use Rattle.native_link.specs.Reading.{text_at, after_text}
-use Rattle.native_link.specs.declared.limits.TheConstants.{MOST_TEXT_BYTES}
+use Rattle.beam_code.specs.declared.module.TheConstants.{MOST_TEXT_BYTES}
 use Rattle.native_link.proofs.Loop.{with_front}
 use Rattle.native_link.proofs.reading.many_texts.Given as goal
 

@@ -1,5 +1,5 @@
 use Rattle.std.proofs.Common.{ap, subst, ◌∙◌, arith}
-use Rattle.native_link.specs.Place.{Gives}
+use Rattle.native_link.specs.Cursor.{Gives}
 use Rattle.native_link.specs.Reading.{reading}
 use Rattle.native_link.proofs.Whole.{is_found, reading_again}
 use Rattle.native_link.proofs.reading.read_parts.Goals as goal

@@ -1,5 +1,5 @@
 use Rattle.std.proofs.lemmas.Result.{err_from_is_err_and}
-use Rattle.native_link.specs.Place.{many_at}
+use Rattle.native_link.specs.Cursor.{many_at}
 use Rattle.native_link.specs.Reading.{each_word, no_more}
 use Rattle.native_link.proofs.Loop.{goes_on, ends, is_done}
 use Rattle.native_link.proofs.reading.words_of.Goals as goal

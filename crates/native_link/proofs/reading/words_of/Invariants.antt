@@ -1,5 +1,5 @@
 use Rattle.std.proofs.Common.{◌≡◌, ◌-◌}
-use Rattle.native_link.specs.Place.{many_at}
+use Rattle.native_link.specs.Cursor.{many_at}
 use Rattle.native_link.specs.Reading.{each_word, no_more}
 use Rattle.native_link.proofs.Loop.{with_front}
 use Rattle.native_link.proofs.reading.words_of.Given as goal

@@ -1,6 +1,6 @@
 use Rattle.std.proofs.Common.{arith}
 use Rattle.native_link.proofs.Widths.{All-within_total}
-use Rattle.native_link.specs.declared.limits.TheConstants.{MOST_TEXT_BYTES}
+use Rattle.beam_code.specs.declared.module.TheConstants.{MOST_TEXT_BYTES}
 use Rattle.native_link.proofs.writing.put_front.Goals as goal
 
 pub put_texts-requires : goal.put_texts-requires

@@ -1,0 +1,48 @@
+-- Where PC may lead: gates, emulated items, native code; and where a call leads (docs/MACHINE.md, Addresses of code).
+use Rattle.std.specs.Prelude.{ℕ, ◌+◌, ◌-◌, ◌*◌, ◌/◌, ◌%◌, Bool, ◌&&◌, ◌||◌, not, Option, Some, None, List, nat_eq, nat_lt, nat_le, if◌then◌else◌, take}
+use Rattle.beam_code.specs.declared.module.Module.{Module}
+use Rattle.beam_code.specs.Function.{Placed, function_at, all_functions, items_in}
+use Rattle.mode_switch.specs.declared.addresses.TheConstants.{GATE_START, GATES, ITEM_START}
+use Rattle.mode_switch.specs.declared.destination.TheConstants.{BUILTINS}
+use Rattle.mode_switch.specs.declared.destination.Destination.{Destination}
+use Rattle.mode_switch.specs.declared.destination.Destination.TheVariants.{Gate, Item, Word, Nowhere}
+use Rattle.native_link.specs.declared.limits.TheConstants.{CODE_START}
+use Rattle.native_link.specs.declared.parts.Native.{Native}
+use Rattle.native_link.specs.Lookup.{native_entry_of}
+
+-- a guard is a gate for the built-ins that only compute
+abbrev pub is_raiser : ℕ → Bool
+is_raiser k = nat_le 45 k && nat_le k 48
+
+-- the gates that are defined: those of ends and raises, built-ins, and built-ins as guards
+abbrev pub is_gate : ℕ → Bool
+is_gate n = nat_le n 16 || (nat_le 64 n && nat_lt (n - 64) BUILTINS) || (nat_le 128 n && (nat_lt (n - 128) BUILTINS && not (is_raiser (n - 128))))
+
+-- whether an address lies among so many words from a start
+abbrev pub within : ℕ → ℕ → ℕ → Bool
+within start count at = nat_le start at && nat_lt ((at - start) / 4) count
+
+-- where an address leads in an image of so many items and code words
+abbrev pub destination_of : ℕ → ℕ → ℕ → Destination
+destination_of items words at =
+    if not (nat_eq (at % 4) 0) then Nowhere
+    else if within GATE_START GATES at then Gate ((at - GATE_START) / 4)
+    else if within ITEM_START items at then Item ((at - ITEM_START) / 4)
+    else if within CODE_START words at then Word ((at - CODE_START) / 4)
+    else Nowhere
+
+-- the number of an item is counted over all functions
+abbrev pub first_item : List Module → ℕ → ℕ
+first_item ms fid = items_in (take fid (all_functions ms))
+
+abbrev pub item_address : ℕ → ℕ
+item_address i = ITEM_START + 4 * i
+
+-- the address of a function's entry item
+abbrev pub item_entry : List Module → ℕ → Option Placed → ℕ
+item_entry ms fid None = 0
+item_entry ms fid (Some p) = item_address (first_item ms fid + p.function.entry)
+
+-- a call leads to the native entry where there is one, else to the entry item
+abbrev pub entry_address : List Module → List Native → ℕ → ℕ
+entry_address ms natives fid = elim (native_entry_of natives fid) [ None ↦ item_entry ms fid (function_at ms fid) | Some at ↦ at ]

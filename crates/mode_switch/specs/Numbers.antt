@@ -1,0 +1,32 @@
+-- The numbers of the machine (docs/MACHINE.md).
+use Rattle.std.specs.Prelude.{◌≡◌}
+use Rattle.beam_code.specs.State.{x_registers}
+use Rattle.mode_switch.specs.declared.addresses.TheConstants.{GATE_START, GATES, ITEM_START, X_START, X_WORDS, STACK_FLOOR, STACK_END, STOP_LINK, MOST_REDUCTIONS, MOST_WORDS}
+use Rattle.mode_switch.specs.declared.text.TheConstants.{VALUE_STATUS, END_STATUS, NOT_BUILT_STATUS}
+use Rattle.native_link.specs.declared.limits.TheConstants.{CODE_START}
+use Rattle.tagged_words.specs.declared.addresses.TheConstants.{LITERAL_START, HEAP_START, MOST_ATOM_NUMBERS}
+
+pub record TheNumbersAre : Type 0 where
+  -- the starts of the address ranges
+  pub gates : GATE_START ≡ 0x01000000
+  pub items : ITEM_START ≡ 0x02000000
+  pub code : CODE_START ≡ 0x04000000
+  pub literals : LITERAL_START ≡ 0x08000000
+  pub heap : HEAP_START ≡ 0x10000000
+  pub x_area : X_START ≡ 0x20000000
+  pub stack_floor : STACK_FLOOR ≡ 0x30000000
+  pub stack_end : STACK_END ≡ 0x40000000
+  -- a return from the outermost call leads to gate 0
+  pub stop_link : STOP_LINK ≡ 0x00FFFFF8
+  -- counts of gates, of x registers and their words, of atoms
+  pub gate_count : GATES ≡ 256
+  pub x_words : X_WORDS ≡ 256
+  pub x_registers : x_registers ≡ 256
+  pub atoms : MOST_ATOM_NUMBERS ≡ 67108864
+  -- the limits of a run
+  pub reductions : MOST_REDUCTIONS ≡ 1000000000
+  pub words : MOST_WORDS ≡ 16777216
+  -- the statuses of a value, of an end, and of what is not printed yet
+  pub value : VALUE_STATUS ≡ 0
+  pub end : END_STATUS ≡ 2
+  pub not_built : NOT_BUILT_STATUS ≡ 11

@@ -1,0 +1,59 @@
+//! Where PC may lead.
+
+ghost use Rattle.mode_switch.specs.Destination.{destination_of, within, is_gate as is_gate_number, is_raiser as is_raiser_number};
+ghost use Rattle.std.specs.Prelude.{◌≡◌};
+
+use crate::addresses::{GATE_START, GATES, ITEM_START};
+use native_link::CODE_START;
+
+/// Where an address leads: to a gate, an item or a code word, each by its number, or to none.
+#[derive(Clone, Copy, PartialEq, Eq, Debug)]
+pub enum Destination {
+    Gate(u32),
+    Item(u32),
+    Word(u32),
+    Nowhere,
+}
+
+/// Whether `at` lies within `count` words from `start` on.
+#[inline]
+fn is_within(start: u32, count: u32, at: u32) -> bool
+    ensures { result ≡ within start count at }
+{
+    start <= at && (at - start) / 4 < count
+}
+
+/// Where `at` leads in an image of so many items and code words.
+#[inline]
+pub(crate) fn destination_at(items: u32, words: u32, at: u32) -> Destination
+    ensures { result ≡ destination_of items words at }
+{
+    if at % 4 != 0 {
+        Destination::Nowhere
+    } else if is_within(GATE_START, GATES, at) {
+        Destination::Gate((at - GATE_START) / 4)
+    } else if is_within(ITEM_START, items, at) {
+        Destination::Item((at - ITEM_START) / 4)
+    } else if is_within(CODE_START, words, at) {
+        Destination::Word((at - CODE_START) / 4)
+    } else {
+        Destination::Nowhere
+    }
+}
+
+/// How many built-ins there are.
+pub(crate) const BUILTINS: u32 = 57;
+
+/// The built-ins that only raise: they have no gate as guards.
+fn is_raiser(number: u32) -> bool
+    ensures { result ≡ is_raiser_number number }
+{
+    45 <= number && number <= 48
+}
+
+/// Whether a gate is defined.
+pub(crate) fn is_gate(n: u32) -> bool
+    ensures { result ≡ is_gate_number n }
+{
+    n <= 16 || 64 <= n && n - 64 < BUILTINS || 128 <= n && n - 128 < BUILTINS && !is_raiser(n - 128)
+}
