@@ -11,7 +11,7 @@ use Rattle.constant_code.specs.Compiled.{value_of, IsReady, words_of, code_of, n
 use Rattle.constant_code.specs.Image.{IsConstant, IsConstantFunction, IsConstantImage, AreConstant}
 use Rattle.constant_code.specs.Words.{constant_length}
 use Rattle.faithful_image.specs.Faithful.{IsFaithful}
-use Rattle.mode_switch.specs.Place.{native_first}
+use Rattle.native_link.specs.Lookup.{native_of as native_function}
 
 -- the functions of one module
 abbrev placed : Module → Function → Placed
@@ -33,21 +33,21 @@ ready_at [] fid f all e = absurd cc
 ready_at (g ∷ fs) zero f all e = let same : g ≡ f = cc in subst IsReady same all.0
 ready_at (g ∷ fs) (suc fid) f all e = ready_at fs fid f all.1 e
 
--- the native entries
-first_by : (from n k : ℕ) (t : Bool) → nat_eq from (from + k) ≡ t → k < suc n → native_first (native_of from ∷ natives_from (from + 1) n) (from + k) ≡ Some (constant_length * (from + k))
-first_by from n k true e low = let same : from + k ≡ from = grind (arith, nat_tests) in rw e (ap (λ x. Some (constant_length * x)) (sym same))
+-- the native functions by number
+first_by : (from n k : ℕ) (t : Bool) → nat_eq from (from + k) ≡ t → k < suc n → native_function (native_of from ∷ natives_from (from + 1) n) (from + k) ≡ Some (native_of (from + k))
+first_by from n k true e low = let same : from + k ≡ from = grind (arith, nat_tests) in rw e (ap (λ x. Some (native_of x)) (sym same))
 first_by from zero k false e low = absurd (grind (arith, nat_tests))
 first_by from (suc n) zero false e low = absurd (grind (arith, nat_tests))
 first_by from (suc n) (suc k) false e low =
     let next : from + suc k ≡ from + 1 + k = omega arith in
-    rw e (subst (λ x. native_first (native_of (from + 1) ∷ natives_from (from + 1 + 1) n) x ≡ Some (constant_length * x)) (sym next)
+    rw e (subst (λ x. native_function (native_of (from + 1) ∷ natives_from (from + 1 + 1) n) x ≡ Some (native_of x)) (sym next)
     (first_by (from + 1) n k (nat_eq (from + 1) (from + 1 + k)) refl (omega arith)))
 
-native_first-natives_from : (n fid : ℕ) → fid < n → native_first (natives_from 0 n) fid ≡ Some (constant_length * fid)
-native_first-natives_from zero fid low = absurd (omega arith)
-native_first-natives_from (suc n) fid low =
+native_numbered : (n fid : ℕ) → fid < n → native_function (natives_from 0 n) fid ≡ Some (native_of fid)
+native_numbered zero fid low = absurd (omega arith)
+native_numbered (suc n) fid low =
     let same : 0 + fid ≡ fid = omega arith in
-    subst (λ x. native_first (natives_from 0 (suc n)) x ≡ Some (constant_length * x)) same (first_by 0 n fid (nat_eq 0 (0 + fid)) refl low)
+    subst (λ x. native_function (natives_from 0 (suc n)) x ≡ Some (native_of x)) same (first_by 0 n fid (nat_eq 0 (0 + fid)) refl low)
 
 -- where the code of a function stands
 in_front : (xs ys : List ℕ) (j w : ℕ) → slice_get xs j ≡ Some w → slice_get (xs ++ ys) j ≡ Some w
@@ -85,8 +85,8 @@ image_of m ok =
             value = value_of n.function;
             constant = ready;
             placed = record {
-              first = constant_length * fid;
-              found = native_first-natives_from (length m.functions) fid (slice_get_within m.functions fid n.function n.there);
+              native = native_of fid;
+              found = native_numbered (length m.functions) fid (slice_get_within m.functions fid n.function n.there);
               stands = λ j w is. word_at m.functions fid n.function (constant_length * fid + j) j w n.there refl is;
             };
           });

@@ -1,33 +1,29 @@
 -- The parts that are compiled meet the rules of the format.
-use Rattle.std.proofs.Common.{◌≡◌, ℕ, zero, suc, ◌+◌, ◌*◌, ◌^◌, ◌<◌, ◌≤◌, ◌++◌, List, [], ◌∷◌, Bool, true, false, length, map, refl, ap, subst, sym, ◌∙◌, append_assoc, append-nil, arith, length-append, if◌then◌else◌}
+use Rattle.std.proofs.Common.{◌≡◌, ℕ, zero, suc, ◌+◌, ◌*◌, ◌^◌, ◌<◌, ◌≤◌, ◌++◌, List, [], ◌∷◌, Bool, true, false, length, map, refl, ap, subst, sym, ◌∙◌, arith, length-append, if◌then◌else◌}
 use Rattle.std.specs.List.{AllByRecursion}
 use Rattle.std.specs.Str.{is_utf8, chars}
 use Rattle.beam_code.specs.declared.module.Function.{Function}
 use Rattle.beam_code.specs.declared.module.Module.{Module}
 use Rattle.beam_code.specs.Function.{cost_of}
 use Rattle.constant_code.proofs.CompiledLaw.{length-code_of}
-use Rattle.constant_code.specs.Compiled.{value_of, IsReady, words_of, code_of, natives_from, with_names, export_name, function_name, atoms_of, compiled, IsCompilable}
+use Rattle.constant_code.specs.Compiled.{value_of, IsReady, words_of, code_of, natives_from, export_name, function_name, atoms_of, compiled, IsCompilable}
 use Rattle.constant_code.specs.Words.{entry_instrs, return_instrs, end_instrs, constant_instrs, constant_length}
-use Rattle.native_link.specs.Atoms.{is_among}
 use Rattle.native_link.specs.declared.limits.TheConstants.{MOST_NATIVES}
-use Rattle.native_link.specs.Fitting.{IsFitting, IsSized, IsSizedNative, IsWord, IsName, IsNew, and_atom, NativeFits, after_native, turn, total_count}
-use Rattle.native_link.specs.Follow.{Follow}
+use Rattle.native_link.specs.Fitting.{IsFitting, IsSized, IsSizedNative, IsWord, IsName, NativeFits, after_native, turn, total_count}
+use Rattle.tagged_words.specs.Follow.{Follow}
 use Rattle.sparc_code.proofs.Laws.{encoded_below}
 use Rattle.sparc_code.specs.Code.{encoded, IsInWidth}
 use Rattle.sparc_code.specs.declared.instruction.Instr.{Instr}
 use Rattle.tagged_words.proofs.WordLaws.{small_word-below}
-use Rattle.tagged_words.specs.Atoms.{first_atoms}
-use Rattle.tagged_words.specs.Laid.{with_atom}
+use Rattle.tagged_words.proofs.Tables.{few_with, first_is_table, with_atom_is_table}
+use Rattle.tagged_words.specs.Atoms.{IsTable, first_atoms, is_among}
+use Rattle.tagged_words.specs.declared.addresses.TheConstants.{MOST_ATOM_NUMBERS}
+use Rattle.tagged_words.specs.Laid.{with_atom, with_names}
 use Rattle.tagged_words.specs.Word.{small_word}
 
--- one more atom, which is new
-follow_end : (e xs : List (List ℕ)) (a : List ℕ) → Follow IsNew and_atom e xs → is_among a (e ++ xs) ≡ false → Follow IsNew and_atom e (xs ++ a ∷ [])
-follow_end e [] a all new = (ap (is_among a) (sym (append-nil e)) ∙ new, tt)
-follow_end e (x ∷ xs) a all new = (all.0, follow_end (e ++ x ∷ []) xs a all.1 (ap (is_among a) (append_assoc e (x ∷ []) xs) ∙ new))
-
--- atoms that differ, and are names
+-- atoms by number, which are names
 pub record Table (atoms : List (List ℕ)) (most : ℕ) : Type 0 where
-  pub distinct : Follow IsNew and_atom [] atoms
+  pub table : IsTable atoms
   pub names : AllByRecursion IsName atoms
   pub few : length atoms ≤ most
 
@@ -35,39 +31,43 @@ names_end : (xs : List (List ℕ)) (a : List ℕ) → AllByRecursion IsName xs �
 names_end [] a all name = (name, tt)
 names_end (x ∷ xs) a all name = (all.0, names_end xs a all.1 name)
 
-with_by : (atoms : List (List ℕ)) (a : List ℕ) (most : ℕ) (t : Bool) → is_among a atoms ≡ t → Table atoms most → IsName a → Table (if t then atoms else atoms ++ a ∷ []) (most + 1)
-with_by atoms a most true is table name = record { distinct = table.distinct; names = table.names; few = (let few = table.few in omega arith) }
-with_by atoms a most false is table name =
+names_by : (t : Bool) (xs : List (List ℕ)) (a : List ℕ) → AllByRecursion IsName xs → IsName a → AllByRecursion IsName (if t then xs else xs ++ a ∷ [])
+names_by true xs a all name = all
+names_by false xs a all name = names_end xs a all name
+
+table_with : (atoms : List (List ℕ)) (a : List ℕ) (most : ℕ) → most < MOST_ATOM_NUMBERS → Table atoms most → IsName a → Table (with_atom atoms a) (most + 1)
+table_with atoms a most room t name =
     record {
-      distinct = follow_end [] atoms a table.distinct is;
-      names = names_end atoms a table.names name;
-      few = (let few = table.few in let more = length-append atoms (a ∷ []) in omega arith);
+      table = with_atom_is_table atoms a t.table (let few = t.few in omega arith);
+      names = names_by (is_among a atoms) atoms a t.names name;
+      few = (let grown = few_with atoms a in let few = t.few in omega arith);
     }
 
-table_with : (atoms : List (List ℕ)) (a : List ℕ) (most : ℕ) → Table atoms most → IsName a → Table (with_atom atoms a) (most + 1)
-table_with atoms a most table name = with_by atoms a most (is_among a atoms) refl table name
-
-table_names : (atoms names : List (List ℕ)) (most : ℕ) → Table atoms most → AllByRecursion IsName names → Table (with_names atoms names) (most + length names)
-table_names atoms [] most table all = record { distinct = table.distinct; names = table.names; few = (let few = table.few in omega arith) }
-table_names atoms (n ∷ ns) most table all =
-    let more = table_names (with_atom atoms n) ns (most + 1) (table_with atoms n most table all.0) all.1 in
-    record { distinct = more.distinct; names = more.names; few = (let few = more.few in omega arith) }
+table_names : (atoms names : List (List ℕ)) (most : ℕ) → most + length names < MOST_ATOM_NUMBERS → Table atoms most → AllByRecursion IsName names → Table (with_names atoms names) (most + length names)
+table_names atoms [] most room t all = record { table = t.table; names = t.names; few = (let few = t.few in omega arith) }
+table_names atoms (n ∷ ns) most room t all =
+    let more = table_names (with_atom atoms n) ns (most + 1) (omega arith) (table_with atoms n most (omega arith) t all.0) all.1 in
+    record { table = more.table; names = more.names; few = (let few = more.few in omega arith) }
 
 first_names : AllByRecursion IsName first_atoms
 unfolding is_utf8 chars lib.Utf8.encode
 first_names = (refl, (refl, (refl, (refl, (refl, (refl, (refl, (refl, (refl, (refl, (refl, (refl, (refl, (refl, tt))))))))))))))
 
 first_table : Table first_atoms 14
-first_table = table_names [] first_atoms 0 (record { distinct = tt; names = tt; few = omega arith }) first_names
+first_table = record { table = first_is_table; names = first_names; few = omega arith }
 
 length-map_names : {A : Type 0} (f : A → List ℕ) (xs : List A) → length (map f xs) ≡ length xs
 length-map_names f [] = refl
 length-map_names f (x ∷ xs) = let rest = length-map_names f xs in omega arith
 
-atoms_table : (m : Module) → IsCompilable m → Table (atoms_of m) (14 + 1 + length (map export_name m.exports) + length (map function_name m.functions))
+pub atoms_table : (m : Module) → IsCompilable m → Table (atoms_of m) (14 + 1 + length (map export_name m.exports) + length (map function_name m.functions))
 atoms_table m ok =
-    table_names (with_names (with_atom first_atoms m.name) (map export_name m.exports)) (map function_name m.functions) (14 + 1 + length (map export_name m.exports))
-    (table_names (with_atom first_atoms m.name) (map export_name m.exports) (14 + 1) (table_with first_atoms m.name 14 first_table ok.name) ok.export_names)
+    let functions = ok.few in
+    let exports = ok.exports in
+    let named = length-map_names export_name m.exports in
+    let called = length-map_names function_name m.functions in
+    table_names (with_names (with_atom first_atoms m.name) (map export_name m.exports)) (map function_name m.functions) (14 + 1 + length (map export_name m.exports)) (omega arith)
+    (table_names (with_atom first_atoms m.name) (map export_name m.exports) (14 + 1) (omega arith) (table_with first_atoms m.name 14 (omega arith) first_table ok.name) ok.export_names)
     ok.function_names
 
 -- native functions one after the other
@@ -133,7 +133,7 @@ compiled_fits m ok =
       modules = omega arith;
       text_bytes = (let text = ok.text in omega arith);
       atoms = (let most = table.few in omega arith);
-      distinct = table.distinct;
+      distinct = table.table.distinct;
       literals = omega arith;
       roots = omega arith;
       natives = (let count = length-natives_from 0 (length m.functions) in omega arith);

@@ -1,38 +1,45 @@
 -- Images of constant functions are faithful.
-use Rattle.std.proofs.Common.{◌≡◌, ℕ, ℤ, suc, ◌+◌, ◌*◌, ◌^◌, ◌<◌, ◌≤◌, ◌⊎◌, inl, inr, true, Some, List, [], ◌∷◌, length, map, slice_get, nat_eq, refl, ap, subst, sym, ◌∙◌, arith}
+use Rattle.std.proofs.Common.{◌≡◌, ◌≢◌, ℕ, ℤ, suc, ◌+◌, ◌-◌, ◌*◌, ◌^◌, ◌<◌, ◌≤◌, ◌⊎◌, inl, inr, true, Some, None, List, [], ◌∷◌, length, map, slice_get, nat_eq, refl, ap, subst, sym, ◌∙◌, arith}
 use Rattle.std.proofs.lemmas.Bool.Decides.{nat_tests}
 use Rattle.std.proofs.lemmas.Option.{slice_get_within}
 use Rattle.beam_code.specs.declared.module.Module.{Module}
 use Rattle.beam_code.specs.Frame.{beam_step}
-use Rattle.beam_code.specs.Function.{Placed, all_functions, function_at, items_of, is_named, cost_of}
+use Rattle.beam_code.specs.Function.{Placed, all_functions, exported_number, function_at, is_named, cost_of}
 use Rattle.beam_code.specs.Meaning.{most_rows, meaning, first_state}
 use Rattle.beam_code.specs.State as b
-use Rattle.constant_code.proofs.Calls.{Found, named, arity_passes, item_below, place_of-item}
-use Rattle.constant_code.proofs.Paths.{EndsSo, entered, out_of_reductions, stack_full, returned}
-use Rattle.constant_code.proofs.Places.{full_step-plain}
+use Rattle.beam_code.proofs.Numbers.{Found, named, arity_passes}
+use Rattle.constant_code.proofs.Paths.{Enters, spends, fills, entered, passes, entered_stands, entered_link, returned, returns, value_of}
+use Rattle.mode_switch.proofs.Places.{full_step-plain}
 use Rattle.constant_code.proofs.Rows.{lt_or_le, MeansSo, begun, means_spent, means_full, means_value, Means, means}
-use Rattle.constant_code.proofs.Steps.{Runs, standing, clear, at}
-use Rattle.std.specs.Prelude.{is_some}
-use Rattle.constant_code.specs.Image.{IsConstant, IsConstantFunction, IsConstantImage, most_items, ConstantsAreFaithful, AreConstant, IsSound, IsOutcome, HasMeaning, ConstantsHaveMeanings}
-use Rattle.constant_code.specs.Line.{meant_line}
+use Rattle.constant_code.proofs.Steps.{Runs}
+use Rattle.constant_code.specs.Image.{IsConstant, IsConstantFunction, IsConstantImage, most_items, ConstantsAreFaithful, AreConstant, ConstantsHaveMeanings, ConstantRunsArePrinted}
+use Rattle.faithful_image.specs.Line.{MeansLine, meant_line, printed_line}
+use Rattle.faithful_image.proofs.LineLaw.{faithful_runs_print_their_meaning}
 use Rattle.faithful_image.specs.Agreement.{Agrees, IsSameOutcome, store_of}
-use Rattle.faithful_image.specs.Call.{Call, IsFitting, loaded, run_of, meaning_of, start}
-use Rattle.faithful_image.specs.Faithful.{AgreesWith, IsApart, IsOver}
+use Rattle.faithful_image.proofs.Watching.{IsFault, step_off, ends_alike, apart_always}
+use Rattle.faithful_image.specs.Meaning.{HasMeaning, IsOutcome, IsSound, meaning_of}
+use Rattle.mode_switch.specs.Call.{Call, IsCallOf, IsInRange, loaded, run_of, start}
+use Rattle.faithful_image.specs.Faithful.{AgreesWith, IsApart, IsFaithful, IsOver}
+use Rattle.faithful_image.specs.Watched.{watched_step}
+use Rattle.mode_switch.specs.declared.addresses.TheConstants.{GATE_START, ITEM_START, STACK_END, STOP_LINK}
+use Rattle.native_link.specs.declared.limits.TheConstants.{CODE_START}
+use Rattle.tagged_words.specs.declared.addresses.TheConstants.{HEAP_START}
 use Rattle.mode_switch.specs.declared.outcome.End.TheVariants as e
 use Rattle.mode_switch.specs.declared.outcome.Outcome.{Outcome}
 use Rattle.mode_switch.specs.declared.outcome.Outcome.TheVariants.{Returned, Ended}
-use Rattle.mode_switch.specs.Place.{Place, Item, code_start, first_item, entry_address}
-use Rattle.mode_switch.specs.Run.{full_step, bound, first_state as machine_state, first_registers}
+use Rattle.mode_switch.specs.Destination.{entry_address, item_entry}
+use Rattle.native_link.specs.Lookup.{entry_address as native_address}
+use Rattle.std.specs.Option.{option_map}
+use Rattle.mode_switch.specs.Run.{full_step, bound, first_state as machine_state}
 use Rattle.mode_switch.specs.State.{Loaded, MixedState, Finish}
-use Rattle.mode_switch.specs.Step.{step_at, place_at}
+use Rattle.mode_switch.specs.Step.{mixed_step}
+use Rattle.mode_switch.specs.declared.text.TheConstants.{NOT_BUILT_STATUS}
 use Rattle.native_link.specs.declared.parts.Parts.{Parts}
-use Rattle.small_step.proofs.Following.{Stretch, Agrees as Followed, ends, ends_in_time, agrees_always}
-use Rattle.small_step.proofs.Runs.{done_stays, done_once}
-use Rattle.small_step.proofs.Strict.{always_allowed}
+use Rattle.small_step.proofs.Following.{Stretch, Ends, Agrees as Followed, ends, ends_in_time}
+use Rattle.small_step.proofs.Runs.{done_stays, done_once, run-one, still_goes_on}
 use Rattle.small_step.specs.Stage.{Stage, Still, Done, IfDone, IfStill, run}
 use Rattle.tagged_words.proofs.WordLaws.{class_of-small_word}
 use Rattle.tagged_words.specs.Laid.{laid_in_turn, words_in_turn, with_atoms_of}
-use Rattle.tagged_words.specs.Store.{heap_start}
 use Rattle.tagged_words.specs.Word.{small_word}
 use Rattle.term_tree.specs.Tree as t
 
@@ -44,35 +51,91 @@ if_still : {S O : Type 0} (P : S → Type 0) (st : Stage S O) → ((s : S) → s
 if_still P (Still s) holds = holds s refl
 if_still P (Done o) holds = tt
 
--- the start of a call at a native entry
-start_is : (g : Loaded) (first : ℕ) (value : ℤ) (cost fid : ℕ) (runs : Runs g first value cost) → entry_address g fid ≡ code_start + 4 * first → machine_state g fid [] [] ≡ entered g first value cost runs
-start_is g first value cost fid runs entry =
-    let here : entry_address g fid ≡ at first 0 = entry ∙ (omega arith) in
-    let there : at first 0 + 4 ≡ at first 1 = omega arith in
-    ap (λ x. record (machine_state g 0 [] []) { regs = first_registers g x 0 [] }) here
-    ∙ ap (λ x. standing g (record { g1 = 0; g6 = g.limits.reductions; o0 = 0; l7 = 0 }) clear (at first 0) x) there
+-- what agrees with a meaning is no fault
+fault_disagrees : (g : Loaded) (m : MixedState) (said : Outcome) (meant : b.Outcome) → IsSameOutcome (store_of g m) g.names said meant → IsFault said → ⊥
+fault_disagrees g m (Ended (e.MachineFault kind at)) (b.Ended end) same fault = same
+fault_disagrees g m (Ended (e.MachineFault kind at)) (b.Returned v) same fault = same
+fault_disagrees g m (Ended (e.MachineFault kind at)) (b.Raised c v) same fault = same
+fault_disagrees g m said meant same fault = absurd fault
+
+-- so many steps of the machine that watches the chosen functions end the run so
+abbrev EndsSo : Loaded → List ℕ → ℕ → MixedState → Outcome → Type 0
+EndsSo g chosen n s outcome = (final : MixedState) × (run (watched_step g chosen) n s ≡ Done (record { outcome = outcome; state = final }))
 
 -- the run of one call
-module _ (g : Loaded) (first : ℕ) (fid : ℕ) (p : Placed) (value : ℤ) (is : function_at g.modules fid ≡ Some p) (constant : IsConstant p.function value) (runs : Runs g first value (cost_of p.function)) (small : g.limits.reductions < 2 ^ 32) (stack : g.limits.stack ≤ 2 ^ 24) where
+module _ (g : Loaded) (chosen : List ℕ) (first fid : ℕ) (p : Placed) (value : ℤ) (is : function_at g.modules fid ≡ Some p) (constant : IsConstant p.function value) (runs : Runs g first value (cost_of p.function)) (entry : entry_address g.modules g.parts.natives fid ≡ CODE_START + 4 * first) (range : IsInRange g.limits) where
+  abbrev start_at : MixedState
+  start_at = machine_state g.limits (entry_address g.modules g.parts.natives fid) [] []
+
+  enters : Enters first (cost_of p.function) g.limits.reductions (STACK_END - 4 * g.limits.stack) STACK_END start_at
+  enters =
+      let most = range.reductions in
+      let frame = runs.frame in
+      record {
+        stands = record { whole = refl; pc = entry ∙ (omega arith); npc = ap (λ x. x + 4) entry ∙ (omega arith) };
+        counter = refl;
+        few = omega arith;
+        floor = refl;
+        pointer = refl;
+        room = omega arith;
+        low = omega arith;
+      }
+
+  -- a gate is no item, and without junk a step there is the gate's
+  at_gate : (s : MixedState) → s.regs.pc < ITEM_START → watched_step g chosen s ≡ mixed_step g s
+  at_gate s low = step_off g chosen s (inl low) ∙ full_step-plain g s runs.quiet
+
+  ends_behind : (n : ℕ) (t : MixedState) (o : Outcome) → run (watched_step g chosen) n start_at ≡ Still t → watched_step g chosen t ≡ Done (record { outcome = o; state = t }) → EndsSo g chosen (n + 1) start_at o
+  ends_behind n t o still end = (t, still_goes_on (watched_step g chosen) n 1 start_at t still ∙ run-one (watched_step g chosen) t ∙ end)
+
+  out_of_reductions : g.limits.reductions ≡ 0 → EndsSo g chosen 6 start_at (Ended e.OutOfReductions)
+  out_of_reductions none =
+      ends_behind 5 _ (Ended e.OutOfReductions)
+      (spends g chosen first value (cost_of p.function) runs start_at g.limits.reductions (STACK_END - 4 * g.limits.stack) STACK_END enters none)
+      (at_gate _ (omega arith))
+
+  stack_full : 0 < g.limits.reductions → g.limits.stack < cost_of p.function → EndsSo g chosen 11 start_at (Ended e.StackFull)
+  stack_full some full =
+      let frame = runs.frame in
+      ends_behind 10 _ (Ended e.StackFull)
+      (fills g chosen first value (cost_of p.function) runs start_at g.limits.reductions (STACK_END - 4 * g.limits.stack) STACK_END enters some (omega arith))
+      (at_gate _ (omega arith))
+
+  abbrev behind_entry : MixedState
+  behind_entry = entered g chosen first value (cost_of p.function) runs start_at g.limits.reductions (STACK_END - 4 * g.limits.stack) STACK_END enters
+
+  returned_value : 0 < g.limits.reductions → cost_of p.function ≤ g.limits.stack → EndsSo g chosen 12 start_at (Returned (small_word value))
+  returned_value some fits =
+      let most = range.stack in
+      let stands = entered_stands g chosen first value (cost_of p.function) runs start_at g.limits.reductions (STACK_END - 4 * g.limits.stack) STACK_END enters in
+      let link = entered_link g chosen first value (cost_of p.function) runs start_at g.limits.reductions (STACK_END - 4 * g.limits.stack) STACK_END enters in
+      let last : MixedState = returned g chosen first value (cost_of p.function) runs behind_entry GATE_START in
+      ends_behind 11 last (Returned (small_word value))
+      (still_goes_on (watched_step g chosen) 8 3 start_at behind_entry
+      (passes g chosen first value (cost_of p.function) runs start_at g.limits.reductions (STACK_END - 4 * g.limits.stack) STACK_END enters some (omega arith))
+      ∙ returns g chosen first value (cost_of p.function) runs behind_entry STOP_LINK GATE_START stands constant.small link refl refl)
+      (at_gate last (omega arith)
+      ∙ ap (λ w. Done (record { outcome = Returned w; state = last })) (value_of g chosen first value (cost_of p.function) runs behind_entry GATE_START stands))
+
   -- both at the start, with steps enough
   record Begins (budget : ℕ) (s : b.BeamState) (m : MixedState) : Type 0 where
     source : s ≡ begun g.modules g.limits fid p value is constant
-    target : m ≡ entered g first value (cost_of p.function) runs
+    target : m ≡ start_at
     enough : 12 ≤ budget
 
   abbrev Good : b.BeamState → Type 0
   Good s = Unit {0}
 
   abbrev Stretches : ℕ → b.BeamState → MixedState → Type 0
-  Stretches budget s m = Stretch (beam_step g.modules g.limits) (full_step g) Begins (Agrees g) Good (λ s s' e good. tt) budget s m
+  Stretches budget s m = Stretch (beam_step g.modules g.limits) (watched_step g chosen) Begins (Agrees g) Good (λ s s' e good. tt) budget s m
 
   -- both end, as they should
-  both_end : (budget rows steps : ℕ) (s : b.BeamState) (m : MixedState) (meant : b.Outcome) (said : Outcome) → Begins budget s m → MeansSo g.modules g.limits rows (begun g.modules g.limits fid p value is constant) meant → EndsSo g steps (entered g first value (cost_of p.function) runs) said
+  both_end : (budget rows steps : ℕ) (s : b.BeamState) (m : MixedState) (meant : b.Outcome) (said : Outcome) → Begins budget s m → MeansSo g.modules g.limits rows (begun g.modules g.limits fid p value is constant) meant → EndsSo g chosen steps start_at said
       → ((final : MixedState) → IsSameOutcome (store_of g final) g.names said meant) → steps ≤ 12 → Stretches budget s m
   both_end budget rows steps s m meant said begins means says same low =
       ends rows steps (record { outcome = meant; state = means.0 }) (record { outcome = said; state = says.0 })
       (ap (run (beam_step g.modules g.limits) rows) begins.source ∙ means.1)
-      (ap (run (full_step g) steps) begins.target ∙ says.1)
+      (ap (run (watched_step g chosen) steps) begins.target ∙ says.1)
       (same says.0) (omega (arith, begins.enough))
 
   stretch : (budget : ℕ) (s : b.BeamState) (m : MixedState) → Good s → Begins budget s m → Stretches budget s m
@@ -80,74 +143,58 @@ module _ (g : Loaded) (first : ℕ) (fid : ℕ) (p : Placed) (value : ℤ) (is :
       elim (lt_or_le 0 g.limits.reductions) [
         | inr none ↦
             both_end budget 1 6 s m (b.Ended b.OutOfReductions) (Ended e.OutOfReductions) begins
-            (means_spent g.modules g.limits fid p value is constant (omega arith)) (out_of_reductions g first value (cost_of p.function) runs (omega arith)) (λ final. tt) (omega arith)
+            (means_spent g.modules g.limits fid p value is constant (omega arith)) (out_of_reductions (omega arith)) (λ final. tt) (omega arith)
         | inl some ↦
             elim (lt_or_le g.limits.stack (cost_of p.function)) [
               | inl full ↦
                   both_end budget 1 11 s m (b.Ended b.StackFull) (Ended e.StackFull) begins
-                  (means_full g.modules g.limits fid p value is constant some full) (stack_full g first value (cost_of p.function) runs some small full) (λ final. tt) (omega arith)
+                  (means_full g.modules g.limits fid p value is constant some full) (stack_full some full) (λ final. tt) (omega arith)
               | inr fits ↦
                   both_end budget 3 12 s m (b.Returned (t.Int value)) (Returned (small_word value)) begins
-                  (means_value g.modules g.limits fid p value is constant some fits) (returned g first value (cost_of p.function) runs some small fits stack constant.small) (λ final. class_of-small_word value constant.small) (omega arith)
+                  (means_value g.modules g.limits fid p value is constant some fits) (returned_value some fits) (λ final. class_of-small_word value constant.small) (omega arith)
             ]
       ]
 
-  begins : Begins (bound g) (begun g.modules g.limits fid p value is constant) (entered g first value (cost_of p.function) runs)
-  begins = record { source = refl; target = refl; enough = omega arith }
+  ended : Ends (beam_step g.modules g.limits) (watched_step g chosen) Begins (Agrees g) Good (λ s s' e good. tt) (bound g) (begun g.modules g.limits fid p value is constant) start_at
+  ended =
+      ends_in_time (beam_step g.modules g.limits) (watched_step g chosen) Begins (Agrees g) Good (λ s s' e good. tt) stretch (bound g) (begun g.modules g.limits fid p value is constant) start_at tt
+      (record { source = refl; target = refl; enough = omega arith })
 
-  meaning_is : run (beam_step g.modules g.limits) (most_rows g.modules g.limits) (begun g.modules g.limits fid p value is constant) ≡ Done (means g.modules g.limits fid p value is constant).finish
+  meaning_is : meaning g.modules g.limits fid [] ≡ Done (means g.modules g.limits fid p value is constant).finish
   meaning_is = done_stays (beam_step g.modules g.limits) 3 (most_rows g.modules g.limits) (begun g.modules g.limits fid p value is constant) (means g.modules g.limits fid p value is constant).finish (means g.modules g.limits fid p value is constant).within (omega arith)
 
-  -- what a followed run says agrees with the meaning
-  agrees_then : (said : Finish) → Followed (beam_step g.modules g.limits) (full_step g) Begins (Agrees g) Good (λ s s' e good. tt) (begun g.modules g.limits fid p value is constant) said → Agrees g (means g.modules g.limits fid p value is constant).finish said
+  agrees_then : (said : Finish) → Followed (beam_step g.modules g.limits) (watched_step g chosen) Begins (Agrees g) Good (λ s s' e good. tt) (begun g.modules g.limits fid p value is constant) said → Agrees g (means g.modules g.limits fid p value is constant).finish said
   agrees_then said a =
       subst (λ meant. Agrees g meant said) (done_once (beam_step g.modules g.limits) a.rows 3 (begun g.modules g.limits fid p value is constant) a.outcome (means g.modules g.limits fid p value is constant).finish a.done (means g.modules g.limits fid p value is constant).within) a.agree
 
-  one_agrees : (n : ℕ) (said : Finish) → run (full_step g) n (entered g first value (cost_of p.function) runs) ≡ Done said → Agrees g (means g.modules g.limits fid p value is constant).finish said
+  good : IsFault ended.outcome.outcome → ⊥
+  good fault = fault_disagrees g ended.outcome.state ended.outcome.outcome _ (agrees_then ended.outcome ended.agrees) fault
+
+  -- the plain run is over within the bound, as the call means
+  one_ends : run (full_step g) (bound g) start_at ≡ Done ended.outcome
+  one_ends = ends_alike g chosen (bound g) start_at ended.outcome ended.within good
+
+  one_agrees : (n : ℕ) (said : Finish) → run (full_step g) n start_at ≡ Done said → Agrees g (means g.modules g.limits fid p value is constant).finish said
   one_agrees n said done =
-      agrees_then said
-      (agrees_always (beam_step g.modules g.limits) (full_step g) Begins (Agrees g) Good (λ s s' e good. tt) stretch (bound g) n
-      (begun g.modules g.limits fid p value is constant) (entered g first value (cost_of p.function) runs) said tt begins done)
+      subst (Agrees g (means g.modules g.limits fid p value is constant).finish) (done_once (full_step g) (bound g) n start_at ended.outcome said one_ends done) (agrees_then ended.outcome ended.agrees)
 
-  one_ends : (said : Finish) × (run (full_step g) (bound g) (entered g first value (cost_of p.function) runs) ≡ Done said)
-  one_ends =
-      let e = ends_in_time (beam_step g.modules g.limits) (full_step g) Begins (Agrees g) Good (λ s s' e good. tt) stretch (bound g) (begun g.modules g.limits fid p value is constant) (entered g first value (cost_of p.function) runs) tt begins in
-      (e.outcome, e.within)
-
--- a run that comes to an item ends as not built
-abbrev IsUnbuilt : Outcome → Type 0
-IsUnbuilt (Ended (e.NotBuilt at)) = Unit {0}
-IsUnbuilt _ = ⊥
-
-unbuilt_disagrees : (g : Loaded) (m : MixedState) (said : Outcome) (meant : b.Outcome) → IsSameOutcome (store_of g m) g.names said meant → IsUnbuilt said → ⊥
-unbuilt_disagrees g m (Ended (e.NotBuilt at)) (b.Ended end) same unbuilt = same
-unbuilt_disagrees g m (Ended (e.NotBuilt at)) (b.Returned v) same unbuilt = same
-unbuilt_disagrees g m (Ended (e.NotBuilt at)) (b.Raised c v) same unbuilt = same
-unbuilt_disagrees g m said meant same unbuilt = absurd unbuilt
-
-module _ (g : Loaded) (chosen : List ℕ) (quiet : g.junk ≡ []) (few : items_of g.modules ≤ most_items) where
-  -- either the machine is at no item, or it ends as not built
-  item_or_not : (m : MixedState) (place : Place) → place_at g m ≡ place → ((full_step g m ≡ full_step g m) × IsApart g.modules chosen m.regs.pc) ⊎ ((said : Finish) × (full_step g m ≡ Done said) × IsUnbuilt said.outcome)
-  item_or_not m (Item i) at_item =
-      inr (record { outcome = Ended (e.NotBuilt m.regs.pc); state = m }, full_step-plain g m quiet ∙ ap (step_at g m) at_item, tt)
-  item_or_not m place is =
-      inl (
-        refl,
-        λ fid i p among function low at_item.
-            let other : place ≡ Item (first_item g.modules fid + i) = sym is ∙ place_of-item (items_of g.modules) (length g.parts.code) (first_item g.modules fid + i) m.regs.pc at_item few (item_below g.modules fid i p function low) in
-            cc,
-      )
-
-  apart : (n : ℕ) (m : MixedState) (said : Finish) → run (full_step g) n m ≡ Done said → (IsUnbuilt said.outcome → ⊥) → (k : ℕ) (s : MixedState) → run (full_step g) k m ≡ Still s → IsApart g.modules chosen s.regs.pc
-  apart n m said done built k s still =
-      always_allowed (full_step g) (full_step g) (λ s. IsApart g.modules chosen s.regs.pc) (λ said. IsUnbuilt said.outcome) (λ s. item_or_not s (place_at g s) refl) n m said done built k s still
+  one_apart : (k : ℕ) (s : MixedState) → run (full_step g) k start_at ≡ Still s → IsApart g.modules chosen s.regs.pc
+  one_apart k s still = apart_always g chosen (bound g) start_at ended.outcome ended.within good k s still
 
 no_args : {A : Type 0} (xs : List A) (n : ℕ) → nat_eq (length xs) n ≡ true → n ≡ 0 → xs ≡ []
 no_args [] n e none = refl
 no_args (x ∷ xs) n e none = absurd (let h : nat_eq (suc (length xs)) 0 ≡ true = ap (nat_eq (suc (length xs))) (sym none) ∙ e in grind (arith, nat_tests))
 
+-- where each function returns a constant, a function that is exported takes no argument
+pub constant_args : {A : Type 0} (ms : List Module) → AreConstant ms → (owner name : List ℕ) (args : List A) (fid : ℕ) → exported_number ms owner name (length args) ≡ Some fid → args ≡ []
+constant_args ms functions owner name args fid exported =
+    let found = named ms owner name (length args) fid exported in
+    let same : fid ≡ found.index = omega (arith, found.is) in
+    let constant = functions fid found.function (ap (slice_get (all_functions ms)) same ∙ found.there) in
+    no_args args found.function.function.arity (arity_passes owner name (length args) found.function found.passes) constant.1.arity
+
 -- a call of an exported function, each of which returns a constant
-module _ (ms : List Module) (functions : AreConstant ms) (call : Call) (fits : IsFitting ms call) where
+module _ (ms : List Module) (functions : AreConstant ms) (call : Call) (fits : IsCallOf ms call) where
   means_found : Found (is_named fits.owner fits.name (length call.args)) 0 call.function (all_functions ms)
   means_found = named ms fits.owner fits.name (length call.args) call.function fits.exported
 
@@ -158,7 +205,7 @@ module _ (ms : List Module) (functions : AreConstant ms) (call : Call) (fits : I
   means_constant = functions call.function means_found.function means_there
 
   means_no_arguments : call.args ≡ []
-  means_no_arguments = no_args call.args means_found.function.function.arity (arity_passes fits.owner fits.name (length call.args) means_found.function means_found.passes) means_constant.1.arity
+  means_no_arguments = constant_args ms functions fits.owner fits.name call.args call.function fits.exported
 
   means_here : Means ms call.limits call.function means_found.function means_constant.0 means_there means_constant.1
   means_here = means ms call.limits call.function means_found.function means_constant.0 means_there means_constant.1
@@ -179,14 +226,17 @@ module _ (ms : List Module) (functions : AreConstant ms) (call : Call) (fits : I
   pub has_meaning : HasMeaning ms call
   has_meaning = record { outcome = subst IsOutcome (sym done_in_time) means_here.sound; never_stuck = never }
 
-  pub has_line : IfDone (meaning_of ms call) (λ f. is_some (meant_line f.outcome) ≡ true)
-  has_line = subst (λ st. IfDone st (λ f. is_some (meant_line f.outcome) ≡ true)) (sym done_in_time) means_here.has_line
+  has_line : IfDone (meaning_of ms call) (λ f. (meant_line f.outcome).1 ≢ NOT_BUILT_STATUS)
+  has_line = subst (λ st. IfDone st (λ f. (meant_line f.outcome).1 ≢ NOT_BUILT_STATUS)) (sym done_in_time) means_here.has_line
+
+  pub line_there : (line : List ℕ × ℕ) → MeansLine ms call line → line.1 ≢ NOT_BUILT_STATUS
+  line_there line m = subst (λ l. l.1 ≢ NOT_BUILT_STATUS) m.is (subst (λ st. IfDone st (λ f. (meant_line f.outcome).1 ≢ NOT_BUILT_STATUS)) m.means has_line)
 
 pub constants_have_meanings : ConstantsHaveMeanings
 constants_have_meanings ms functions call fits = has_meaning ms functions call fits
 
 -- a call of an exported function of a constant image
-module _ (ms : List Module) (parts : Parts) (image : IsConstantImage ms parts) (call : Call) (fits : IsFitting ms call) where
+module _ (ms : List Module) (parts : Parts) (image : IsConstantImage ms parts) (call : Call) (fits : IsCallOf ms call) where
   abbrev g : Loaded
   g = loaded ms parts call
 
@@ -202,69 +252,50 @@ module _ (ms : List Module) (parts : Parts) (image : IsConstantImage ms parts) (
   no_arguments : call.args ≡ []
   no_arguments = no_args call.args found.function.function.arity (arity_passes fits.owner fits.name (length call.args) found.function found.passes) constant.constant.arity
 
-  last_word : constant.placed.first + 14 < length parts.code
-  last_word = slice_get_within parts.code (constant.placed.first + 14) _ (constant.placed.stands 14 _ refl)
+  last_word : constant.placed.native.first + 14 < length parts.code
+  last_word = slice_get_within parts.code (constant.placed.native.first + 14) _ (constant.placed.stands 14 _ refl)
 
-  runs : Runs g constant.placed.first constant.value (cost_of found.function.function)
+  runs : Runs g constant.placed.native.first constant.value (cost_of found.function.function)
   runs =
       record {
-        quiet = fits.junk;
+        quiet = fits.no_junk;
         few = image.items;
         words = constant.placed.stands;
         below = (let last = last_word in let most = image.code in omega arith);
         frame = constant.constant.frame;
       }
 
-  entry : entry_address g call.function ≡ code_start + 4 * constant.placed.first
-  entry = rw constant.placed.found refl
+  entry : entry_address ms parts.natives call.function ≡ CODE_START + 4 * constant.placed.native.first
+  entry = ap (λ o. elim (option_map native_address o) [ None ↦ item_entry ms call.function (function_at ms call.function) | Some at ↦ at ]) constant.placed.found
 
-  -- the machine and the meaning begin where the run of one call does
-  start_at : start g call ≡ entered g constant.placed.first constant.value (cost_of found.function.function) runs
-  start_at =
-      ap (λ args. machine_state (loaded ms parts (record call { args = args })) call.function (laid_in_turn (with_atoms_of parts.atoms args) heap_start args) (words_in_turn (with_atoms_of parts.atoms args) heap_start args)) no_arguments
-      ∙ start_is g constant.placed.first constant.value (cost_of found.function.function) call.function runs entry
+  -- the call's run and its meaning begin where those of a call without arguments do
+  plain_start : start g call ≡ machine_state call.limits (entry_address ms parts.natives call.function) [] []
+  plain_start =
+      ap (λ args. machine_state call.limits (entry_address ms parts.natives call.function) (laid_in_turn g.names HEAP_START args) (words_in_turn g.names HEAP_START args)) no_arguments
 
-  small : call.limits.reductions < 2 ^ 32
-  small = let h = fits.limits.reductions in omega arith
-
-  stack : call.limits.stack ≤ 2 ^ 24
-  stack = let h = fits.limits.stack in omega arith
-
-  -- the two runs of the call
-  said_at : (n : ℕ) → run_of g call n ≡ run (full_step g) n (entered g constant.placed.first constant.value (cost_of found.function.function) runs)
-  said_at n = ap (run (full_step g) n) start_at
+  said_at : (n : ℕ) → run_of g call n ≡ run (full_step g) n (machine_state call.limits (entry_address ms parts.natives call.function) [] [])
+  said_at n = ap (run (full_step g) n) plain_start
 
   meant : meaning_of ms call ≡ Done (means ms call.limits call.function found.function constant.value there constant.constant).finish
   meant =
       ap (λ args. meaning ms call.limits call.function args) no_arguments
-      ∙ meaning_is g constant.placed.first call.function found.function constant.value there constant.constant runs small stack
+      ∙ meaning_is g [] constant.placed.native.first call.function found.function constant.value there constant.constant runs entry fits.limits
 
   agrees_at : (n : ℕ) (said : Finish) → run_of g call n ≡ Done said → AgreesWith g (meaning_of ms call) said
   agrees_at n said done =
       subst (λ st. AgreesWith g st said) (sym meant)
-      (one_agrees g constant.placed.first call.function found.function constant.value there constant.constant runs small stack n said (sym (said_at n) ∙ done))
-
-  over : (said : Finish) × (run_of g call (bound g) ≡ Done said)
-  over =
-      let e = one_ends g constant.placed.first call.function found.function constant.value there constant.constant runs small stack in
-      (e.0, said_at (bound g) ∙ e.1)
-
-  built : (said : Finish) → run_of g call (bound g) ≡ Done said → IsUnbuilt said.outcome → ⊥
-  built said done unbuilt =
-      let same : Agrees g (means ms call.limits call.function found.function constant.value there constant.constant).finish said =
-      one_agrees g constant.placed.first call.function found.function constant.value there constant.constant runs small stack (bound g) said (sym (said_at (bound g)) ∙ done) in
-      unbuilt_disagrees g said.state said.outcome _ same unbuilt
+      (one_agrees g [] constant.placed.native.first call.function found.function constant.value there constant.constant runs entry fits.limits n said (sym (said_at n) ∙ done))
 
   pub agrees_in : (n : ℕ) → IfDone (run_of g call n) (AgreesWith g (meaning_of ms call))
   agrees_in n = if_done (AgreesWith g (meaning_of ms call)) (run_of g call n) (agrees_at n)
 
   pub ends_in : IsOver (run_of g call (bound g))
-  ends_in = subst IsOver (sym over.1) tt
+  ends_in = subst IsOver (sym (said_at (bound g) ∙ one_ends g [] constant.placed.native.first call.function found.function constant.value there constant.constant runs entry fits.limits)) tt
 
   pub apart_in : (chosen : List ℕ) (n : ℕ) → IfStill (run_of g call n) (λ s. IsApart ms chosen s.regs.pc)
   apart_in chosen n =
       if_still (λ s. IsApart ms chosen s.regs.pc) (run_of g call n)
-      (λ s still. apart g chosen fits.junk image.items (bound g) (start g call) over.0 over.1 (built over.0 over.1) n s still)
+      (λ s still. one_apart g chosen constant.placed.native.first call.function found.function constant.value there constant.constant runs entry fits.limits n s (sym (said_at n) ∙ still))
 
 pub constants_are_faithful : ConstantsAreFaithful
 constants_are_faithful ms parts image =
@@ -275,3 +306,7 @@ constants_are_faithful ms parts image =
       ends = λ call fits. ends_in ms parts image call fits;
       native = λ call fits n. apart_in ms parts image call fits (map (λ n. n.fid) parts.natives) n;
     }
+
+pub constant_runs_are_printed : ConstantRunsArePrinted
+constant_runs_are_printed ms chosen parts faithful functions call fits =
+    line_there ms functions call fits (printed_line ms parts call) (faithful_runs_print_their_meaning ms chosen parts faithful call fits)

@@ -1,100 +1,174 @@
--- The three ways through a constant function: no reduction is left, no room is left, or it returns.
-use Rattle.std.proofs.Common.{◌≡◌, ℕ, ℤ, suc, ◌+◌, ◌-◌, ◌*◌, ◌^◌, ◌<◌, ◌≤◌, true, false, nat_eq, refl, ap, ◌∙◌, arith}
+-- The entry and the return of a constant function, as stretches from any state: %g5, %g6, %o6, %o7, PC and nPC decide.
+use Rattle.std.proofs.Common.{◌≡◌, ◌≢◌, ℕ, ℤ, suc, ◌+◌, ◌-◌, ◌*◌, ◌^◌, ◌<◌, ◌≤◌, true, false, List, length, nat_eq, slice_index, slice_set, refl, ap, ◌∙◌, arith}
 use Rattle.std.proofs.lemmas.Bool.Decides.{nat_tests}
-use Rattle.constant_code.proofs.Steps.{Flags, clear, compared, Changing, standing, at, Runs, gates, step0, step1_on, step1_off, step2, step3, step4, step5, step6_on, step6_off, step7, step8, step9, step10, step11, step12, step13, step14, stops, spends, fills}
+use Rattle.std.proofs.lemmas.List.{get_or-set_same, get_or-set_other, length-set}
+use Rattle.constant_code.proofs.Steps.{Flags, flags_of, compared, standing, at, Runs, gates, step0, step1_on, step1_off, step2, step3, step4, step5, step6_on, step6_off, nop_step, step8, step9, step10, step11, step13}
 use Rattle.constant_code.specs.Words.{upper}
-use Rattle.mode_switch.specs.declared.outcome.End.TheVariants.{OutOfReductions, StackFull}
-use Rattle.mode_switch.specs.declared.outcome.Outcome.{Outcome}
-use Rattle.mode_switch.specs.declared.outcome.Outcome.TheVariants.{Returned, Ended}
-use Rattle.mode_switch.specs.Memory.{stack_end}
-use Rattle.mode_switch.specs.Place.{gate_start}
-use Rattle.mode_switch.specs.Run.{full_step}
+use Rattle.faithful_image.specs.Watched.{watched_step}
+use Rattle.mode_switch.specs.declared.addresses.TheConstants.{GATE_START}
 use Rattle.mode_switch.specs.State.{Loaded, MixedState}
-use Rattle.small_step.proofs.Runs.{steps_on, run-one}
-use Rattle.small_step.specs.Stage.{Still, Done, run}
-use Rattle.sparc_code.specs.Step.{in_word, difference_of}
-use Rattle.tagged_words.specs.Word.{IsSmall, small_word}
+use Rattle.small_step.proofs.Runs.{steps_on}
+use Rattle.small_step.specs.Stage.{Still, run}
+use Rattle.sparc_code.specs.Step.{in_word, is_aligned, sum_of, difference_of}
+use Rattle.tagged_words.specs.Word.{small_word}
+use Rattle.term_tree.specs.Small.{IsSmall}
 
--- so many steps from a state end the run so
-abbrev pub EndsSo : Loaded → ℕ → MixedState → Outcome → Type 0
-EndsSo g n s outcome = (final : MixedState) × (run (full_step g) n s ≡ Done (record { outcome = outcome; state = final }))
+-- PC stands at a word of the code, and control goes on in order
+pub record Stands (first j : ℕ) (s : MixedState) : Type 0 where
+  pub whole : length s.regs.r ≡ 32
+  pub pc : s.regs.pc ≡ at first j
+  pub npc : s.regs.npc ≡ at first (j + 1)
 
-module _ (g : Loaded) (first : ℕ) (value : ℤ) (cost : ℕ) (runs : Runs g first value cost) where
-  abbrev before : Changing
-  before = record { g1 = 0; g6 = g.limits.reductions; o0 = 0; l7 = 0 }
+stands_so : (first j : ℕ) (s : MixedState) → Stands first j s → s ≡ standing s s.regs.r (flags_of s.regs) (at first j) (at first (j + 1))
+stands_so first j s st =
+    ap (λ x. standing s s.regs.r (flags_of s.regs) x s.regs.npc) st.pc ∙ ap (λ x. standing s s.regs.r (flags_of s.regs) (at first j) x) st.npc
 
-  abbrev paged : Changing
-  paged = record { g1 = gates; g6 = g.limits.reductions; o0 = 0; l7 = 0 }
+-- what an entry finds: the reductions left, the stack limit and the stack pointer
+pub record Enters (first cost left limit sp : ℕ) (s : MixedState) : Type 0 where
+  pub stands : Stands first 0 s
+  pub counter : slice_index s.regs.r 6 ≡ left
+  pub few : left < 2 ^ 32
+  pub floor : slice_index s.regs.r 5 ≡ limit
+  pub pointer : slice_index s.regs.r 14 ≡ sp
+  pub room : 4 * cost ≤ sp
+  pub low : sp < 2 ^ 32
 
-  abbrev paid : Changing
-  paid = record { g1 = gates; g6 = g.limits.reductions - 1; o0 = 0; l7 = 0 }
+-- the registers on the way: %g1 has the gates, %g6 a reduction less, %l7 where the frame would begin
+abbrev pub paged : List ℕ → List ℕ
+paged rs = slice_set rs 1 gates
 
-  abbrev placed : Changing
-  placed = record { g1 = gates; g6 = g.limits.reductions - 1; o0 = 0; l7 = stack_end - 4 * cost }
+abbrev pub paid : List ℕ → ℕ → List ℕ
+paid rs left = slice_set (paged rs) 6 (left - 1)
 
-  abbrev half : Changing
-  half = record { g1 = gates; g6 = g.limits.reductions - 1; o0 = upper (small_word value) * 2 ^ 10; l7 = stack_end - 4 * cost }
+abbrev pub placed : List ℕ → ℕ → ℕ → List ℕ
+placed rs left low = slice_set (paid rs left) 23 low
 
-  abbrev whole : Changing
-  whole = record { g1 = gates; g6 = g.limits.reductions - 1; o0 = small_word value; l7 = stack_end - 4 * cost }
-
-  -- the flags after each comparison
-  abbrev counted : Flags
-  counted = compared g.limits.reductions 0
-
-  abbrev measured : Flags
-  measured = compared (stack_end - 4 * cost) (stack_end - 4 * g.limits.stack)
-
-  abbrev pub entered : MixedState
-  entered = standing g before clear (at first 0) (at first 1)
-
+module _ (g : Loaded) (chosen : List ℕ) (first : ℕ) (value : ℤ) (cost : ℕ) (runs : Runs g first value cost) (s : MixedState) where
   next_of : (j k : ℕ) → k ≡ j + 1 → k ≤ 16 → in_word (at first j + 4) ≡ at first k
   next_of j k e low = let limit = runs.below in omega arith
 
-  -- a step, and then a run that ends
-  go : (n : ℕ) (s t : MixedState) (outcome : Outcome) → full_step g s ≡ Still t → EndsSo g n t outcome → EndsSo g (suc n) s outcome
-  go n s t outcome step rest = (rest.0, steps_on (full_step g) n s t step ∙ rest.1)
+  go : (n : ℕ) (t u v : MixedState) → watched_step g chosen t ≡ Still u → run (watched_step g chosen) n u ≡ Still v → run (watched_step g chosen) (suc n) t ≡ Still v
+  go n t u v step rest = steps_on (watched_step g chosen) n t u step ∙ rest
 
-  pub out_of_reductions : g.limits.reductions ≡ 0 → EndsSo g 6 entered (Ended OutOfReductions)
-  out_of_reductions none =
-      let zero_result : counted.zero_result ≡ true = ap (λ r. nat_eq (difference_of r 0) 0) none in
-      go 5 entered (standing g before counted (at first 1) (at first 2)) _ (step0 g first value cost runs before clear (at first 1) (at first 2) (next_of 1 2 refl (omega arith)))
-      (go 4 (standing g before counted (at first 1) (at first 2)) (standing g before counted (at first 2) (at first 11)) _ (step1_off g first value cost runs before counted (at first 2) zero_result)
-      (go 3 (standing g before counted (at first 2) (at first 11)) (standing g paged counted (at first 11) (at first 12)) _ (step2 g first value cost runs before counted (at first 11) (at first 12) (next_of 11 12 refl (omega arith)))
-      (go 2 (standing g paged counted (at first 11) (at first 12)) (standing g paged counted (at first 12) (gate_start + 4)) _ (step11 g first value cost runs before counted (at first 12))
-      (go 1 (standing g paged counted (at first 12) (gate_start + 4)) (standing g paged counted (gate_start + 4) (gate_start + 8)) _ (step12 g first value cost runs paged counted (gate_start + 4) (gate_start + 8) refl)
-      (standing g paged counted (gate_start + 4) (gate_start + 8), run-one (full_step g) (standing g paged counted (gate_start + 4) (gate_start + 8)) ∙ spends g first value cost runs paged counted (gate_start + 8))))))
+  module _ (left limit sp : ℕ) (enters : Enters first cost left limit sp s) where
+    abbrev rs : List ℕ
+    rs = s.regs.r
 
-  -- from the word behind the comparison with the stack limit, reached with a reduction taken
-  to_limit : (n : ℕ) (outcome : Outcome) → 0 < g.limits.reductions → g.limits.reductions < 2 ^ 32 → EndsSo g n (standing g placed measured (at first 6) (at first 7)) outcome → EndsSo g (suc (suc (suc (suc (suc (suc n)))))) entered outcome
-  to_limit n outcome some small rest =
-      let zero_result : counted.zero_result ≡ false = grind (arith, nat_tests) in
-      let left : difference_of g.limits.reductions 1 ≡ g.limits.reductions - 1 = omega arith in
-      go (suc (suc (suc (suc (suc n))))) entered (standing g before counted (at first 1) (at first 2)) outcome (step0 g first value cost runs before clear (at first 1) (at first 2) (next_of 1 2 refl (omega arith)))
-      (go (suc (suc (suc (suc n)))) (standing g before counted (at first 1) (at first 2)) (standing g before counted (at first 2) (at first 3)) outcome (step1_on g first value cost runs before counted (at first 2) (at first 3) zero_result (next_of 2 3 refl (omega arith)))
-      (go (suc (suc (suc n))) (standing g before counted (at first 2) (at first 3)) (standing g paged counted (at first 3) (at first 4)) outcome (step2 g first value cost runs before counted (at first 3) (at first 4) (next_of 3 4 refl (omega arith)))
-      (go (suc (suc n)) (standing g paged counted (at first 3) (at first 4)) (standing g paid counted (at first 4) (at first 5)) outcome (step3 g first value cost runs paged counted (at first 4) (at first 5) (g.limits.reductions - 1) (next_of 4 5 refl (omega arith)) left)
-      (go (suc n) (standing g paid counted (at first 4) (at first 5)) (standing g placed counted (at first 5) (at first 6)) outcome (step4 g first value cost runs paid counted (at first 5) (at first 6) (next_of 5 6 refl (omega arith)))
-      (go n (standing g placed counted (at first 5) (at first 6)) (standing g placed measured (at first 6) (at first 7)) outcome (step5 g first value cost runs placed counted (at first 6) (at first 7) (next_of 6 7 refl (omega arith))) rest)))))
+    -- the flags after each comparison
+    abbrev pub counted : Flags
+    counted = compared left 0
 
-  pub stack_full : 0 < g.limits.reductions → g.limits.reductions < 2 ^ 32 → g.limits.stack < cost → EndsSo g 11 entered (Ended StackFull)
-  stack_full some small full =
-      let frame = runs.frame in
-      let carry : measured.carry ≡ true = grind (arith, nat_tests) in
-      to_limit 5 (Ended StackFull) some small
-      (go 4 (standing g placed measured (at first 6) (at first 7)) (standing g placed measured (at first 7) (at first 13)) _ (step6_off g first value cost runs placed measured (at first 7) carry)
-      (go 3 (standing g placed measured (at first 7) (at first 13)) (standing g placed measured (at first 13) (at first 14)) _ (step7 g first value cost runs placed measured (at first 13) (at first 14) (next_of 13 14 refl (omega arith)))
-      (go 2 (standing g placed measured (at first 13) (at first 14)) (standing g placed measured (at first 14) (gate_start + 8)) _ (step13 g first value cost runs placed measured (at first 14))
-      (go 1 (standing g placed measured (at first 14) (gate_start + 8)) (standing g placed measured (gate_start + 8) (gate_start + 12)) _ (step14 g first value cost runs placed measured (gate_start + 8) (gate_start + 12) refl)
-      (standing g placed measured (gate_start + 8) (gate_start + 12), run-one (full_step g) (standing g placed measured (gate_start + 8) (gate_start + 12)) ∙ fills g first value cost runs placed measured (gate_start + 12))))))
+    abbrev pub measured : Flags
+    measured = compared (sp - 4 * cost) limit
 
-  pub returned : 0 < g.limits.reductions → g.limits.reductions < 2 ^ 32 → cost ≤ g.limits.stack → g.limits.stack ≤ 2 ^ 24 → IsSmall value → EndsSo g 12 entered (Returned (small_word value))
-  returned some small room stack is_small =
-      let carry : measured.carry ≡ false = grind (arith, nat_tests) in
-      to_limit 6 (Returned (small_word value)) some small
-      (go 5 (standing g placed measured (at first 6) (at first 7)) (standing g placed measured (at first 7) (at first 8)) _ (step6_on g first value cost runs placed measured (at first 7) (at first 8) carry (next_of 7 8 refl (omega arith)))
-      (go 4 (standing g placed measured (at first 7) (at first 8)) (standing g placed measured (at first 8) (at first 9)) _ (step7 g first value cost runs placed measured (at first 8) (at first 9) (next_of 8 9 refl (omega arith)))
-      (go 3 (standing g placed measured (at first 8) (at first 9)) (standing g half measured (at first 9) (at first 10)) _ (step8 g first value cost runs placed measured (at first 9) (at first 10) is_small (next_of 9 10 refl (omega arith)))
-      (go 2 (standing g half measured (at first 9) (at first 10)) (standing g half measured (at first 10) gate_start) _ (step9 g first value cost runs half measured (at first 10))
-      (go 1 (standing g half measured (at first 10) gate_start) (standing g whole measured gate_start (gate_start + 4)) _ (step10 g first value cost runs half measured gate_start (gate_start + 4) refl refl)
-      (standing g whole measured gate_start (gate_start + 4), run-one (full_step g) (standing g whole measured gate_start (gate_start + 4)) ∙ stops g first value cost runs whole measured (gate_start + 4)))))))
+    begun : s ≡ standing s rs (flags_of s.regs) (at first 0) (at first 1)
+    begun = stands_so first 0 s enters.stands
+
+    word0 : watched_step g chosen (standing s rs (flags_of s.regs) (at first 0) (at first 1)) ≡ Still (standing s rs counted (at first 1) (at first 2))
+    word0 =
+        step0 g chosen first value cost runs s rs (flags_of s.regs) (at first 1) (at first 2) (next_of 1 2 refl (omega arith))
+        ∙ ap (λ x. Still (standing s rs (compared x 0) (at first 1) (at first 2))) enters.counter
+
+    page : slice_index (paged rs) 1 ≡ gates
+    page = get_or-set_same rs 1 gates 0 (omega (arith, enters.stands.whole))
+
+    -- no reduction is left: on to gate 1
+    pub spends : left ≡ 0 → run (watched_step g chosen) 5 s ≡ Still (standing s (paged rs) counted (GATE_START + 4) (GATE_START + 8))
+    spends none =
+        let zero_result : counted.zero_result ≡ true = ap (λ r. nat_eq (difference_of r 0) 0) none in
+        ap (run (watched_step g chosen) 5) begun
+        ∙ go 4 _ (standing s rs counted (at first 1) (at first 2)) _ word0
+        (go 3 _ (standing s rs counted (at first 2) (at first 11)) _ (step1_off g chosen first value cost runs s rs counted (at first 2) zero_result)
+        (go 2 _ (standing s (paged rs) counted (at first 11) (at first 12)) _ (step2 g chosen first value cost runs s rs counted (at first 11) (at first 12) (next_of 11 12 refl (omega arith)))
+        (go 1 _ (standing s (paged rs) counted (at first 12) (GATE_START + 4)) _ (step11 g chosen first value cost runs s (paged rs) counted (at first 12) page)
+        (go 0 _ (standing s (paged rs) counted (GATE_START + 4) (GATE_START + 8)) _ (nop_step g chosen first value cost runs s 12 (paged rs) counted (GATE_START + 4) (GATE_START + 8) refl refl) refl))))
+
+    -- what the registers that count hold on the way
+    left_of : slice_index (paged rs) 6 ≡ left
+    left_of = get_or-set_other rs 1 6 gates 0 (λ e. cc) ∙ enters.counter
+
+    pointer_of : slice_index (paid rs left) 14 ≡ sp
+    pointer_of = get_or-set_other (paged rs) 6 14 (left - 1) 0 (λ e. cc) ∙ get_or-set_other rs 1 14 gates 0 (λ e. cc) ∙ enters.pointer
+
+    whole_paid : length (paid rs left) ≡ 32
+    whole_paid = length-set (paged rs) 6 (left - 1) ∙ length-set rs 1 gates ∙ enters.stands.whole
+
+    start_of : slice_index (placed rs left (sp - 4 * cost)) 23 ≡ sp - 4 * cost
+    start_of = get_or-set_same (paid rs left) 23 (sp - 4 * cost) 0 (omega (arith, whole_paid))
+
+    limit_of : slice_index (placed rs left (sp - 4 * cost)) 5 ≡ limit
+    limit_of =
+        get_or-set_other (paid rs left) 23 5 (sp - 4 * cost) 0 (λ e. cc) ∙ get_or-set_other (paged rs) 6 5 (left - 1) 0 (λ e. cc)
+        ∙ get_or-set_other rs 1 5 gates 0 (λ e. cc) ∙ enters.floor
+
+    -- a reduction is taken: on to the word behind the comparison with the stack limit
+    to_limit : (n : ℕ) (t : MixedState) → 0 < left → run (watched_step g chosen) n (standing s (placed rs left (sp - 4 * cost)) measured (at first 6) (at first 7)) ≡ Still t → run (watched_step g chosen) (suc (suc (suc (suc (suc (suc n)))))) s ≡ Still t
+    to_limit n t some rest =
+        let few = enters.few in
+        let low = enters.low in
+        let room = enters.room in
+        let zero_result : counted.zero_result ≡ false = grind (arith, nat_tests) in
+        let one_less : difference_of (slice_index (paged rs) 6) 1 ≡ left - 1 = ap (λ x. difference_of x 1) left_of ∙ (omega arith) in
+        let down : difference_of (slice_index (paid rs left) 14) (4 * cost) ≡ sp - 4 * cost = ap (λ x. difference_of x (4 * cost)) pointer_of ∙ (omega arith) in
+        ap (run (watched_step g chosen) (suc (suc (suc (suc (suc (suc n))))))) begun
+        ∙ go (suc (suc (suc (suc (suc n))))) _ (standing s rs counted (at first 1) (at first 2)) _ word0
+        (go (suc (suc (suc (suc n)))) _ (standing s rs counted (at first 2) (at first 3)) _ (step1_on g chosen first value cost runs s rs counted (at first 2) (at first 3) zero_result (next_of 2 3 refl (omega arith)))
+        (go (suc (suc (suc n))) _ (standing s (paged rs) counted (at first 3) (at first 4)) _ (step2 g chosen first value cost runs s rs counted (at first 3) (at first 4) (next_of 3 4 refl (omega arith)))
+        (go (suc (suc n)) _ (standing s (paid rs left) counted (at first 4) (at first 5)) _ (step3 g chosen first value cost runs s (paged rs) counted (at first 4) (at first 5) (left - 1) (next_of 4 5 refl (omega arith)) one_less)
+        (go (suc n) _ (standing s (placed rs left (sp - 4 * cost)) counted (at first 5) (at first 6)) _ (step4 g chosen first value cost runs s (paid rs left) counted (at first 5) (at first 6) (sp - 4 * cost) (next_of 5 6 refl (omega arith)) down)
+        (go n _ (standing s (placed rs left (sp - 4 * cost)) measured (at first 6) (at first 7)) _
+        (step5 g chosen first value cost runs s (placed rs left (sp - 4 * cost)) counted (at first 6) (at first 7) (next_of 6 7 refl (omega arith))
+        ∙ ap (λ x. Still (standing s (placed rs left (sp - 4 * cost)) (compared x (slice_index (placed rs left (sp - 4 * cost)) 5)) (at first 6) (at first 7))) start_of
+        ∙ ap (λ x. Still (standing s (placed rs left (sp - 4 * cost)) (compared (sp - 4 * cost) x) (at first 6) (at first 7))) limit_of) rest)))))
+
+    page_placed : slice_index (placed rs left (sp - 4 * cost)) 1 ≡ gates
+    page_placed = get_or-set_other (paid rs left) 23 1 (sp - 4 * cost) 0 (λ e. cc) ∙ get_or-set_other (paged rs) 6 1 (left - 1) 0 (λ e. cc) ∙ page
+
+    -- no room is left: on to gate 2
+    pub fills : 0 < left → sp - 4 * cost < limit → run (watched_step g chosen) 10 s ≡ Still (standing s (placed rs left (sp - 4 * cost)) measured (GATE_START + 8) (GATE_START + 12))
+    fills some full =
+        let carry : measured.carry ≡ true = grind (arith, nat_tests) in
+        to_limit 4 _ some
+        (go 3 _ (standing s (placed rs left (sp - 4 * cost)) measured (at first 7) (at first 13)) _ (step6_off g chosen first value cost runs s (placed rs left (sp - 4 * cost)) measured (at first 7) carry)
+        (go 2 _ (standing s (placed rs left (sp - 4 * cost)) measured (at first 13) (at first 14)) _ (nop_step g chosen first value cost runs s 7 (placed rs left (sp - 4 * cost)) measured (at first 13) (at first 14) refl (next_of 13 14 refl (omega arith)))
+        (go 1 _ (standing s (placed rs left (sp - 4 * cost)) measured (at first 14) (GATE_START + 8)) _ (step13 g chosen first value cost runs s (placed rs left (sp - 4 * cost)) measured (at first 14) page_placed)
+        (go 0 _ (standing s (placed rs left (sp - 4 * cost)) measured (GATE_START + 8) (GATE_START + 12)) _ (nop_step g chosen first value cost runs s 14 (placed rs left (sp - 4 * cost)) measured (GATE_START + 8) (GATE_START + 12) refl refl) refl))))
+
+    -- the state behind an entry that went well
+    abbrev pub entered : MixedState
+    entered = standing s (placed rs left (sp - 4 * cost)) measured (at first 8) (at first 9)
+
+    pub passes : 0 < left → limit ≤ sp - 4 * cost → run (watched_step g chosen) 8 s ≡ Still entered
+    passes some fits =
+        let carry : measured.carry ≡ false = grind (arith, nat_tests) in
+        to_limit 2 _ some
+        (go 1 _ (standing s (placed rs left (sp - 4 * cost)) measured (at first 7) (at first 8)) _ (step6_on g chosen first value cost runs s (placed rs left (sp - 4 * cost)) measured (at first 7) (at first 8) carry (next_of 7 8 refl (omega arith)))
+        (go 0 _ entered _ (nop_step g chosen first value cost runs s 7 (placed rs left (sp - 4 * cost)) measured (at first 8) (at first 9) refl (next_of 8 9 refl (omega arith))) refl))
+
+    pub entered_stands : Stands first 8 entered
+    entered_stands = record { whole = length-set (paid rs left) 23 (sp - 4 * cost) ∙ whole_paid; pc = refl; npc = refl }
+
+    -- the link is as it was
+    pub entered_link : slice_index entered.regs.r 15 ≡ slice_index rs 15
+    entered_link =
+        get_or-set_other (paid rs left) 23 15 (sp - 4 * cost) 0 (λ e. cc) ∙ get_or-set_other (paged rs) 6 15 (left - 1) 0 (λ e. cc) ∙ get_or-set_other rs 1 15 gates 0 (λ e. cc)
+
+  -- the return, from any state at its first word: on to behind the link, with the constant's word in %o0
+  abbrev pub returned : ℕ → MixedState
+  returned back = standing s (slice_set (slice_set s.regs.r 8 (upper (small_word value) * 2 ^ 10)) 8 (small_word value)) (flags_of s.regs) back (in_word (back + 4))
+
+  pub returns : (link back : ℕ) → Stands first 8 s → IsSmall value → slice_index s.regs.r 15 ≡ link → in_word (link + 8) ≡ back → is_aligned back ≡ true → run (watched_step g chosen) 3 s ≡ Still (returned back)
+  returns link back st small is to whole =
+      let half : List ℕ = slice_set s.regs.r 8 (upper (small_word value) * 2 ^ 10) in
+      let at_link : slice_index half 15 ≡ link = get_or-set_other s.regs.r 8 15 (upper (small_word value) * 2 ^ 10) 0 (λ e. cc) ∙ is in
+      let target : sum_of (slice_index half 15) 8 ≡ back = ap (λ x. sum_of x 8) at_link ∙ to in
+      let high : slice_index half 8 ≡ upper (small_word value) * 2 ^ 10 = get_or-set_same s.regs.r 8 (upper (small_word value) * 2 ^ 10) 0 (omega (arith, st.whole)) in
+      ap (run (watched_step g chosen) 3) (stands_so first 8 s st)
+      ∙ go 2 _ (standing s half (flags_of s.regs) (at first 9) (at first 10)) _ (step8 g chosen first value cost runs s s.regs.r (flags_of s.regs) (at first 9) (at first 10) small (next_of 9 10 refl (omega arith)))
+      (go 1 _ (standing s half (flags_of s.regs) (at first 10) back) _ (step9 g chosen first value cost runs s half (flags_of s.regs) (at first 10) back target whole)
+      (go 0 _ (returned back) _ (step10 g chosen first value cost runs s half (flags_of s.regs) back (in_word (back + 4)) high refl) refl))
+
+  pub value_of : (back : ℕ) → Stands first 8 s → slice_index (returned back).regs.r 8 ≡ small_word value
+  value_of back st =
+      get_or-set_same (slice_set s.regs.r 8 (upper (small_word value) * 2 ^ 10)) 8 (small_word value) 0
+      (omega (arith, length-set s.regs.r 8 (upper (small_word value) * 2 ^ 10), st.whole))

@@ -1,7 +1,6 @@
 -- The rows of a function that returns a constant.
 use Rattle.std.proofs.Common.{◌≡◌, ◌≢◌, ℕ, ℤ, ◌+◌, ◌-◌, ◌<◌, ◌≤◌, ◌⊎◌, inl, inr, true, false, Some, List, [], slice_get, slice_set, nat_eq, nat_lt, refl, ap, ◌∙◌, arith}
 use Rattle.std.proofs.lemmas.Bool.Decides.{leb_tells, nat_tests}
-use Rattle.std.specs.Prelude.{is_some}
 use Rattle.beam_code.specs.declared.call.Limits.{Limits}
 use Rattle.beam_code.specs.declared.module.Module.{Module}
 use Rattle.beam_code.specs.Frame.{beam_step, row_at, after, state_of}
@@ -10,7 +9,8 @@ use Rattle.beam_code.specs.Meaning.{first_state, entry_of}
 use Rattle.beam_code.specs.Row.{local_step, item_row}
 use Rattle.beam_code.specs.State.{Local, BeamState, Finish, Outcome, Returned, Ended, OutOfReductions, StackFull, Stuck}
 use Rattle.constant_code.specs.Image.{IsConstant}
-use Rattle.constant_code.specs.Line.{meant_line}
+use Rattle.faithful_image.specs.Line.{meant_line}
+use Rattle.mode_switch.specs.declared.text.TheConstants.{NOT_BUILT_STATUS}
 use Rattle.small_step.proofs.Runs.{done_stays, steps_on, run-one}
 use Rattle.small_step.specs.Stage.{Still, Done, run}
 use Rattle.term_tree.specs.Tree as t
@@ -26,7 +26,7 @@ module _ (ms : List Module) (limits : Limits) (fid : ℕ) (p : Placed) (value : 
   begun = first_state ms limits fid []
 
   -- the running function's row, with no frame that waits
-  row_is : (l : Local) → beam_step ms limits (state_of fid [] l) ≡ after ms limits fid [] (local_step (limits.stack - 0) p.function l)
+  row_is : (l : Local) → beam_step ms limits (state_of fid [] l) ≡ after ms limits fid [] (local_step ms limits (limits.stack - 0) p l)
   row_is l = ap (row_at ms limits (state_of fid [] l)) is
 
   at_entry : nat_eq (entry_of (function_at ms fid)) p.function.entry ≡ true
@@ -64,14 +64,14 @@ module _ (ms : List Module) (limits : Limits) (fid : ℕ) (p : Placed) (value : 
   moves_row : beam_step ms limits (state_of fid [] left_one) ≡ Still (state_of fid [] holding)
   moves_row =
       row_is left_one
-      ∙ rw (past_entry 1 (omega arith)) (ap (λ i. after ms limits fid [] (item_row left_one i)) constant.moves)
+      ∙ rw (past_entry 1 (omega arith)) (ap (λ i. after ms limits fid [] (item_row ms limits p left_one i)) constant.moves)
 
   returns_row : beam_step ms limits (state_of fid [] holding) ≡ Done (record { outcome = Returned (t.Int value); state = state_of fid [] holding })
   returns_row =
       let at : p.function.entry + 1 + 1 ≡ p.function.entry + 2 = omega arith in
       let past : nat_eq (p.function.entry + 1 + 1) p.function.entry ≡ false = grind (arith, nat_tests) in
       row_is holding
-      ∙ rw past (ap (λ i. after ms limits fid [] (item_row holding i)) (ap (slice_get p.function.items) at ∙ constant.returns))
+      ∙ rw past (ap (λ i. after ms limits fid [] (item_row ms limits p holding i)) (ap (slice_get p.function.items) at ∙ constant.returns))
 
   pub means_value : 0 < limits.reductions → cost_of p.function ≤ limits.stack → MeansSo ms limits 3 begun (Returned (t.Int value))
   means_value some fits = (
@@ -86,9 +86,9 @@ module _ (ms : List Module) (limits : Limits) (fid : ℕ) (p : Placed) (value : 
     pub finish : Finish
     pub within : run (beam_step ms limits) 3 begun ≡ Done finish
     pub sound : finish.outcome ≢ Ended Stuck
-    pub has_line : is_some (meant_line finish.outcome) ≡ true
+    pub has_line : (meant_line finish.outcome).1 ≢ NOT_BUILT_STATUS
 
-  means_so : (rows : ℕ) (meant : Outcome) → rows ≤ 3 → meant ≢ Ended Stuck → is_some (meant_line meant) ≡ true → MeansSo ms limits rows begun meant → Means
+  means_so : (rows : ℕ) (meant : Outcome) → rows ≤ 3 → meant ≢ Ended Stuck → (meant_line meant).1 ≢ NOT_BUILT_STATUS → MeansSo ms limits rows begun meant → Means
   means_so rows meant low sound line m =
       record {
         finish = record { outcome = meant; state = m.0 };
@@ -100,10 +100,10 @@ module _ (ms : List Module) (limits : Limits) (fid : ℕ) (p : Placed) (value : 
   pub means : Means
   means =
       elim (lt_or_le 0 limits.reductions) [
-        | inr none ↦ means_so 1 (Ended OutOfReductions) (omega arith) (λ e. cc) refl (means_spent (omega arith))
+        | inr none ↦ means_so 1 (Ended OutOfReductions) (omega arith) (λ e. cc) (λ e. cc) (means_spent (omega arith))
         | inl some ↦
             elim (lt_or_le limits.stack (cost_of p.function)) [
-              | inl full ↦ means_so 1 (Ended StackFull) (omega arith) (λ e. cc) refl (means_full some full)
-              | inr fits ↦ means_so 3 (Returned (t.Int value)) (omega arith) (λ e. cc) refl (means_value some fits)
+              | inl full ↦ means_so 1 (Ended StackFull) (omega arith) (λ e. cc) (λ e. cc) (means_full some full)
+              | inr fits ↦ means_so 3 (Returned (t.Int value)) (omega arith) (λ e. cc) (λ e. cc) (means_value some fits)
             ]
       ]

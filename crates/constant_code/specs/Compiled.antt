@@ -13,12 +13,13 @@ use Rattle.beam_code.specs.declared.module.Module.{Module}
 use Rattle.beam_code.specs.Function.{cost_of, items_of}
 use Rattle.constant_code.specs.Image.{IsConstant, most_items}
 use Rattle.constant_code.specs.Words.{constant_words, constant_length}
-use Rattle.native_link.specs.declared.limits.TheConstants.{MOST_NATIVES, MOST_TEXT_BYTES}
+use Rattle.beam_code.specs.declared.module.TheConstants.{MOST_TEXT_BYTES}
+use Rattle.native_link.specs.declared.limits.TheConstants.{MOST_NATIVES}
 use Rattle.native_link.specs.declared.parts.Native.{Native}
 use Rattle.native_link.specs.declared.parts.Parts.{Parts}
 use Rattle.native_link.specs.Fitting.{IsName}
 use Rattle.tagged_words.specs.Atoms.{first_atoms}
-use Rattle.tagged_words.specs.Laid.{with_atom}
+use Rattle.tagged_words.specs.Laid.{with_atom, with_names}
 
 -- the integer that an instruction moves to x0
 abbrev pub at_x0 : Place → ℤ → Option ℤ
@@ -64,11 +65,6 @@ natives_from fid (suc n) = native_of fid ∷ natives_from (fid + 1) n
 abbrev pub numbers_from : ℕ → ℕ → List ℕ
 numbers_from from zero = []
 numbers_from from (suc n) = from ∷ numbers_from (from + 1) n
-
--- the atoms of names behind those that are there
-abbrev pub with_names : List (List ℕ) → List (List ℕ) → List (List ℕ)
-with_names atoms [] = atoms
-with_names atoms (n ∷ ns) = with_names (with_atom atoms n) ns
 
 abbrev pub export_name : List ℕ × ℕ → List ℕ
 export_name e = e.0

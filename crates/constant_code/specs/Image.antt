@@ -7,16 +7,16 @@ use Rattle.beam_code.specs.declared.module.Function.{Function}
 use Rattle.beam_code.specs.declared.module.Module.{Module}
 use Rattle.beam_code.specs.Function.{Placed, function_at, items_of, cost_of}
 use Rattle.constant_code.specs.Words.{constant_words}
-use Rattle.beam_code.specs.Frame.{beam_step}
-use Rattle.beam_code.specs.Meaning.{first_state}
-use Rattle.beam_code.specs.State as b
-use Rattle.faithful_image.specs.Call.{Call, IsFitting, meaning_of}
 use Rattle.faithful_image.specs.Faithful.{IsFaithful}
-use Rattle.small_step.specs.Stage.{Stage, Still, Done, IfDone, run}
-use Rattle.mode_switch.specs.Place.{native_first}
+use Rattle.faithful_image.specs.Line.{printed_line}
+use Rattle.faithful_image.specs.Meaning.{HasMeaning}
+use Rattle.mode_switch.specs.Call.{Call, IsCallOf}
+use Rattle.mode_switch.specs.declared.text.TheConstants.{NOT_BUILT_STATUS}
+use Rattle.native_link.specs.declared.parts.Native.{Native}
+use Rattle.native_link.specs.Lookup.{native_of}
 use Rattle.native_link.specs.declared.limits.TheConstants.{MOST_FRAME, MOST_CODE}
 use Rattle.native_link.specs.declared.parts.Parts.{Parts}
-use Rattle.tagged_words.specs.Word.{IsSmall}
+use Rattle.term_tree.specs.Small.{IsSmall}
 
 -- a function of no arguments that moves a small integer to x0 and returns
 pub record IsConstant (f : Function) (value : ℤ) : Type 0 where
@@ -30,9 +30,9 @@ pub record IsConstant (f : Function) (value : ℤ) : Type 0 where
 
 -- the code words of a function stand at its native entry
 pub record IsPlaced (parts : Parts) (fid : ℕ) (words : List ℕ) : Type 0 where
-  pub first : ℕ
-  pub found : native_first parts.natives fid ≡ Some first
-  pub stands : (j : ℕ) (w : ℕ) → slice_get words j ≡ Some w → slice_get parts.code (first + j) ≡ Some w
+  pub native : Native
+  pub found : native_of parts.natives fid ≡ Some native
+  pub stands : (j : ℕ) (w : ℕ) → slice_get words j ≡ Some w → slice_get parts.code (native.first + j) ≡ Some w
 
 -- each function returns a constant, and is in native form
 pub record IsConstantFunction (parts : Parts) (fid : ℕ) (f : Function) : Type 0 where
@@ -54,22 +54,15 @@ pub record IsConstantImage (ms : List Module) (parts : Parts) : Type 0 where
 abbrev pub AreConstant : List Module → Type 0
 AreConstant ms = (fid : ℕ) (p : Placed) → function_at ms fid ≡ Some p → (value : ℤ) × IsConstant p.function value
 
--- a run that ended did not end because a row was stuck
-abbrev pub IsSound : b.Finish → Type 0
-IsSound f = f.outcome ≢ b.Ended b.Stuck
-
-abbrev pub IsOutcome : Stage b.BeamState b.Finish → Type 0
-IsOutcome (Still s) = ⊥
-IsOutcome (Done f) = IsSound f
-
--- the meaning of a call is an outcome, and no row on the way is stuck
-pub record HasMeaning (ms : List Module) (call : Call) : Type 0 where
-  pub outcome : IsOutcome (meaning_of ms call)
-  pub never_stuck : (n : ℕ) → IfDone (run (beam_step ms call.limits) n (first_state ms call.limits call.function call.args)) IsSound
-
 abbrev pub ConstantsHaveMeanings : Type 0
-ConstantsHaveMeanings = (ms : List Module) → AreConstant ms → (call : Call) → IsFitting ms call → HasMeaning ms call
+ConstantsHaveMeanings = (ms : List Module) → AreConstant ms → (call : Call) → IsCallOf ms call → HasMeaning ms call
 
 -- such an image does what its texts say
 abbrev pub ConstantsAreFaithful : Type 0
 ConstantsAreFaithful = (ms : List Module) (parts : Parts) → IsConstantImage ms parts → IsFaithful ms (map (λ n. n.fid) parts.natives) parts
+
+-- where each function returns a constant, each call is printed
+abbrev pub ConstantRunsArePrinted : Type 0
+ConstantRunsArePrinted =
+    (ms : List Module) (chosen : List ℕ) (parts : Parts) → IsFaithful ms chosen parts → AreConstant ms → (call : Call) → IsCallOf ms call
+    → (printed_line ms parts call).1 ≢ NOT_BUILT_STATUS

@@ -1,4 +1,3 @@
 pub mod Words
 pub mod Image
 pub mod Compiled
-pub mod Line

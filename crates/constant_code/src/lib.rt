@@ -2,8 +2,7 @@
 //! have a meaning, and images of them do what their texts say.
 #![tactic(auto)]
 
-ghost use Rattle.constant_code.specs.Image.{ConstantsAreFaithful, ConstantsHaveMeanings};
-ghost use Rattle.constant_code.specs.Line.{ConstantRunsPrintTheirMeaning, FaithfulRunsPrintTheirMeaning};
+ghost use Rattle.constant_code.specs.Image.{ConstantRunsArePrinted, ConstantsAreFaithful, ConstantsHaveMeanings};
 
 /// A law: an image in which each function is constant, and in native form, does what its texts say.
 pub fn constants_are_faithful()
@@ -16,13 +15,7 @@ pub fn constants_have_meanings()
     ensures { ConstantsHaveMeanings }
 {}
 
-/// A law: what a run on a faithful image prints of a call without arguments is the line of the
-/// call's meaning, if that has one.
-pub fn faithful_runs_print_their_meaning()
-    ensures { FaithfulRunsPrintTheirMeaning }
-{}
-
-/// A law: where each function is constant there is such a line, and it is printed.
-pub fn constant_runs_print_their_meaning()
-    ensures { ConstantRunsPrintTheirMeaning }
+/// A law: what a run on a faithful image prints of a call of a constant function is a line of today.
+pub fn constant_runs_are_printed()
+    ensures { ConstantRunsArePrinted }
 {}

@@ -7,7 +7,8 @@ use Rattle.mode_switch.specs.declared.outcome.Outcome.{Outcome}
 use Rattle.mode_switch.specs.declared.outcome.Outcome.TheVariants.{Returned, Raised, Ended}
 use Rattle.mode_switch.specs.State.{Loaded, MixedState, Finish}
 use Rattle.sparc_code.specs.Step.{register}
-use Rattle.tagged_words.specs.Store.{Store, IsTreeOf, heap_start}
+use Rattle.tagged_words.specs.declared.addresses.TheConstants.{HEAP_START}
+use Rattle.tagged_words.specs.Store.{Store, IsTreeOf}
 
 -- the register of the heap top
 abbrev pub heap_top : MixedState → ℕ
@@ -15,7 +16,7 @@ heap_top s = register s.regs 2
 
 -- the heap words whose address lies below the heap top
 abbrev pub used_heap : MixedState → List ℕ
-used_heap s = take ((heap_top s - heap_start + 3) / 4) s.heap.words
+used_heap s = take ((heap_top s - HEAP_START + 3) / 4) s.memory.heap.words
 
 abbrev pub store_of : Loaded → MixedState → Store
 store_of g s = record { literals = g.parts.literals; heap = used_heap s }

@@ -1,3 +1,5 @@
 pub mod Agreement
-pub mod Call
+pub mod Meaning
 pub mod Faithful
+pub mod Line
+pub mod Watched

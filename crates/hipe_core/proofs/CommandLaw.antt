@@ -1,16 +1,16 @@
 -- From what was written of an image to how a command ended.
-use Rattle.std.proofs.Common.{◌≡◌, ℕ, is_some, inr, true, List, [], length, Option, Some, None, Ok, refl, ap, subst, ◌∙◌}
+use Rattle.std.proofs.Common.{◌≡◌, ℕ, is_some, inr, true, List, [], length, Option, Some, None, Ok, refl, subst, sym}
 use Rattle.beam_code.specs.declared.call.Limits.{Limits}
 use Rattle.beam_code.specs.declared.module.Module.{Module}
 use Rattle.beam_code.specs.Function.{exported_number}
-use Rattle.hipe_core.specs.Command.{Called, IsAnswer, IsSaid, Opened, RunsBytes, RunsEntry, RunsFunction, RunsOutcome, SaysOutcome, Writes, WritesImage, outcome_of}
+use Rattle.hipe_core.specs.Command.{Called, IsAnswer, IsSaid, Opened, RunsBytes, RunsEntry, RunsFunction, RunsOutcome, SaysLine, Writes, WritesImage}
 use Rattle.hipe_core.specs.declared.ending.Ending.{Ending}
 use Rattle.hipe_core.specs.declared.ending.Ending.TheVariants.{Done, Said, Usage, NotExported, NotBuilt, CannotWrite, NoMemory}
-use Rattle.hipe_core.specs.Saying.{Seen}
+use Rattle.hipe_base.specs.Sink.{Seen}
 use Rattle.hipe_core.specs.Words.{Asked, Nothing, Compile, Run}
-use Rattle.mode_switch.specs.declared.outcome.Outcome.{Outcome}
-use Rattle.mode_switch.specs.Machine.{Progress, ran}
-use Rattle.mode_switch.specs.Start.{IsOpenedAt, loaded_of}
+use Rattle.faithful_image.specs.Line.{line_of, printed_line}
+use Rattle.mode_switch.specs.Call.{call_of}
+use Rattle.mode_switch.specs.Machine.{IsOpened, Progress, ran}
 use Rattle.native_link.specs.Checking.{Linked}
 use Rattle.native_link.specs.Image.{Answers}
 use Rattle.plain_text.specs.Reading.{IsPlainText}
@@ -23,13 +23,19 @@ writes_text text m CannotWrite s t r w = (w.0, record { source = m; plain = r; i
 writes_text text m NoMemory s t r w = w
 writes_text text m other s t r w = absurd w
 
+-- the endings of a run of a function that is there are those of its line
+at_function : (e : Ending) (image : Linked) (limits : Limits) (args : List Term) (fid : ℕ) (s t : Seen) → SaysLine e (printed_line image.modules image.parts (call_of fid args limits [])) s t → RunsFunction e image limits args (Some fid) s t
+at_function (NotExported count) image limits args fid s t says = absurd says
+at_function other image limits args fid s t says = says
+
 -- the run of the function that was opened
-pub runs_function : (e : Ending) (image : Linked) (limits : Limits) (args : List Term) (number : Option ℕ) (p : Progress) (o : Outcome) (s t : Seen) → args ≡ [] →
-    IsOpenedAt (loaded_of image.modules image.parts limits) number p → o ≡ (ran p).answer → SaysOutcome e o s t → RunsFunction e image limits args number s t
-runs_function e image limits args None p o s t none at is says = absurd at
-runs_function (NotExported count) image limits args (Some fid) p o s t none at is says = absurd says
-runs_function NoMemory image limits args (Some fid) p o s t none at is says = says
-runs_function other image limits args (Some fid) p o s t none at is says = (none, subst (λ x. SaysOutcome other x s t) (is ∙ ap (λ q. (ran q).answer) at) says)
+pub runs_function : (e : Ending) (image : Linked) (c : Called) (junk : List ℕ) (p : Progress) (s t : Seen) → junk ≡ [] → IsOpened image.modules image.parts c.owner c.function c.args c.limits junk p →
+    SaysLine e (line_of (ran p)) s t → RunsOutcome e image c s t
+runs_function e image c junk p s t none opened says =
+    subst (λ number. RunsFunction e image c.limits c.args number s t) (sym opened.exported)
+    (at_function e image c.limits c.args opened.function s t
+    (subst (λ j. SaysLine e (printed_line image.modules image.parts (call_of opened.function c.args c.limits j)) s t) none
+    (subst (λ q. SaysLine e (line_of (ran q)) s t) opened.is says)))
 
 -- from the image's run to that of its bytes
 runs_by : (e : Ending) (bytes : List ℕ) (c : Called) (image : Linked) (number : Option ℕ) (s t : Seen) → Answers bytes (Ok image) → exported_number image.modules c.owner c.function (length c.args) ≡ number →
@@ -38,13 +44,13 @@ runs_by (NotExported count) bytes c image None s t read is runs = ((image, read,
 runs_by NoMemory bytes c image None s t read is runs = runs
 runs_by other bytes c image None s t read is runs = absurd runs
 runs_by (Said status) bytes c image (Some fid) s t read is runs =
-    (outcome_of image c.limits fid, record { image = image; read = read; none = runs.0; function = fid; exported = is; is = refl }, runs.1)
+    (printed_line image.modules image.parts (call_of fid c.args c.limits []), record { image = image; read = read; function = fid; exported = is; is = refl }, runs)
 runs_by CannotWrite bytes c image (Some fid) s t read is runs =
-    (outcome_of image c.limits fid, record { image = image; read = read; none = runs.0; function = fid; exported = is; is = refl }, runs.1)
+    (printed_line image.modules image.parts (call_of fid c.args c.limits []), record { image = image; read = read; function = fid; exported = is; is = refl }, runs)
 runs_by NotBuilt bytes c image (Some fid) s t read is runs =
-    (inr (outcome_of image c.limits fid, record { image = image; read = read; none = runs.0; function = fid; exported = is; is = refl }, runs.1.0), runs.1.1)
+    (inr (printed_line image.modules image.parts (call_of fid c.args c.limits []), record { image = image; read = read; function = fid; exported = is; is = refl }, runs.0), runs.1)
 runs_by NoMemory bytes c image (Some fid) s t read is runs = runs
-runs_by other bytes c image (Some fid) s t read is runs = absurd runs.1
+runs_by other bytes c image (Some fid) s t read is runs = absurd runs
 
 pub runs_bytes : (e : Ending) (bytes : List ℕ) (c : Called) (image : Linked) (s t : Seen) → Answers bytes (Ok image) → RunsOutcome e image c s t → RunsBytes e bytes c s t
 runs_bytes e bytes c image s t read runs = runs_by e bytes c image (exported_number image.modules c.owner c.function (length c.args)) s t read refl runs

@@ -2,19 +2,20 @@
 use Rattle.std.proofs.Common.{◌≡◌, ℕ, ℤ, pos, negsuc, ◌+◌, ◌*◌, ◌≤◌, ◌++◌, List, [], ◌∷◌, true, ◌&&◌, length, map, refl, arith, subst, sym}
 use Rattle.std.proofs.lemmas.Bool.Decides.{nat_tests}
 use Rattle.std.specs.List.{AllByRecursion, list_all}
-use Rattle.asm_text.specs.declared.stand.Form.{Form}
+use Rattle.text_forms.specs.declared.form.Form.{Form}
 use Rattle.beam_code.specs.declared.module.Module.{Module}
 use Rattle.beam_code.specs.Function.{items_in}
 use Rattle.constant_code.specs.Compiled.{IsReady, export_name, function_name, IsCompilable}
+use Rattle.beam_code.specs.declared.module.TheConstants.{MOST_TEXT_BYTES}
 use Rattle.native_link.specs.Fitting.{IsName}
 use Rattle.plain_text.proofs.Answering.{plain_few}
 use Rattle.plain_text.specs.declared.plain.Constant.{Constant}
 use Rattle.plain_text.specs.declared.plain.Plain.{Plain}
 use Rattle.plain_text.specs.Module.{forms_before, line_at, function_of, functions_of, export_of, module_of}
-use Rattle.plain_text.specs.Plain.{is_name, is_fine, name_of, are_new, is_plain}
+use Rattle.plain_text.specs.Plain.{is_fine, name_of, are_new, is_plain}
+use Rattle.term_tree.specs.Name.{is_name}
 use Rattle.plain_text.specs.Reading.{IsPlainText}
-use Rattle.tagged_words.specs.Word.{IsSmall}
-use Rattle.term_tree.specs.Small.{is_small}
+use Rattle.term_tree.specs.Small.{is_small, IsSmall}
 use Rattle.term_tree.proofs.TermLaws.{both_hold}
 
 small_is : (z : ℤ) → is_small z ≡ true → IsSmall z
@@ -82,7 +83,7 @@ functions_named forms name k (c ∷ cs) fine =
     let both = both_hold (is_fine c) (list_all is_fine cs) fine in
     ((both_hold (is_name c.name) (is_small c.value) both.0).0, functions_named forms name (k + 1) cs both.1)
 
-made_compiles : (text : List ℕ) (forms : List Form) (p : Plain) → is_plain p ≡ true → 30 * length p.constants ≤ length text → length text ≤ 4194304 → IsCompilable (module_of text forms p)
+made_compiles : (text : List ℕ) (forms : List Form) (p : Plain) → is_plain p ≡ true → 30 * length p.constants ≤ length text → length text ≤ MOST_TEXT_BYTES → IsCompilable (module_of text forms p)
 made_compiles text forms p plain few short =
     let parts : Parts p = parts_of p plain in
     record {
@@ -96,5 +97,5 @@ made_compiles text forms p plain few short =
       function_names = functions_named forms p.name 0 p.constants parts.fine;
     }
 
-pub plain_compiles : (text : List ℕ) (m : Module) → IsPlainText text m → length text ≤ 4194304 → IsCompilable m
+pub plain_compiles : (text : List ℕ) (m : Module) → IsPlainText text m → length text ≤ MOST_TEXT_BYTES → IsCompilable m
 plain_compiles text m r short = subst IsCompilable (sym r.is) (made_compiles text r.forms r.plain r.is_plain (plain_few text m r) short)

@@ -2,23 +2,27 @@
 use Rattle.std.proofs.Common.{◌≡◌, ◌⊎◌, inl, inr, ℕ, zero, suc, ◌+◌, ◌≤◌, ◌++◌, Bool, true, false, cond, nat_lt, not, List, [], ◌∷◌, length, map, Option, Some, None, Result, Ok, Err, refl, sym, ap, subst, ◌∙◌, arith, true≢false, le-ltb, lt-ltb, if◌then◌else◌}
 use Rattle.std.specs.declared.alloc.AllocError.{AllocError}
 use Rattle.std.specs.List.{position, position_or_len}
-use Rattle.asm_text.specs.declared.stand.Form.{Form}
-use Rattle.asm_text.specs.declared.token.TextRefusal.{TextRefusal}
+use Rattle.text_forms.specs.declared.form.Form.{Form}
+use Rattle.text_forms.specs.declared.refusal.TextRefusal.{TextRefusal}
 use Rattle.asm_text.specs.Reading.{reading as text_reading}
 use Rattle.beam_code.specs.declared.module.Function.{Function}
 use Rattle.beam_code.specs.declared.module.Module.{Module}
 use Rattle.beam_code.specs.Function.{Placed, all_functions}
+use Rattle.constant_code.proofs.FittingLaw.{atoms_table}
 use Rattle.constant_code.specs.Compiled.{numbers_from}
 use Rattle.hipe_core.proofs.OneModule.{modules_are}
+use Rattle.hipe_core.proofs.PlainLaw.{plain_compiles}
 use Rattle.hipe_core.proofs.TableLaw.{plain_has_atoms}
 use Rattle.hipe_core.specs.Image.{IsImageOf}
 use Rattle.hipe_core.specs.Meaning.{IsReadAs}
 use Rattle.native_link.proofs.Whole.{reading_again}
 use Rattle.native_link.specs.Checking.{linked, has_atoms, is_foreign, natives_checked, atom_count_offset, checking}
+use Rattle.beam_code.specs.declared.module.TheConstants.{MOST_TEXT_BYTES}
 use Rattle.native_link.specs.declared.parts.Native.{Native}
 use Rattle.native_link.specs.declared.parts.Parts.{Parts}
 use Rattle.native_link.specs.declared.refusal.ImageRefusal.{ImageRefusal}
 use Rattle.native_link.specs.declared.refusal.ImageRefusal.TheVariants as fault
+use Rattle.native_link.specs.Fitting.{total_length}
 use Rattle.native_link.specs.Image.{Answers, AreReadings, SomeUnread, Readable, Unreadable, Refused, has_more}
 use Rattle.native_link.specs.Reading.{reading}
 use Rattle.plain_text.specs.Forms.{form_term, terms_of}
@@ -55,10 +59,6 @@ has_checked m p known same =
     checked_by p (has_atoms p.atoms (m ∷ [])) (position (is_foreign (length (all_functions (m ∷ [])))) p.natives) known
     (no_position (length (all_functions (m ∷ []))) p.natives (none_foreign (length (all_functions (m ∷ []))) 0 (length m.functions) p.natives same few))
 
-image_checked : (text : List ℕ) (m : Module) (bytes : List ℕ) → IsPlainText text m → (is : IsImageOf m bytes) → checking is.parts (m ∷ []) ≡ Ok tt
-image_checked text m bytes plain is =
-    has_checked m is.parts (ap (λ t. has_atoms t (m ∷ [])) is.atoms ∙ plain_has_atoms text m plain) is.faithful.choice
-
 -- ---- the first pass finds none, and leaves nothing
 
 nothing_more : (p : Parts) → p.literals ≡ [] → p.roots ≡ [] → p.descriptors ≡ [] → has_more p ≡ false
@@ -69,6 +69,14 @@ image_read m bytes is = ap reading is.spelled ∙ reading_again is.parts is.fitt
 
 texts_of : (text : List ℕ) (m : Module) (bytes : List ℕ) → IsPlainText text m → (is : IsImageOf m bytes) → is.parts.texts ≡ text ∷ []
 texts_of text m bytes plain is = is.faithful.texts ∙ ap (λ (x : Module). x.text ∷ []) plain.is
+
+image_checked : (text : List ℕ) (m : Module) (bytes : List ℕ) → IsPlainText text m → (is : IsImageOf m bytes) → checking is.parts (m ∷ []) ≡ Ok tt
+image_checked text m bytes plain is =
+    let bytes_of = ap total_length (texts_of text m bytes plain is) in
+    let short : length text ≤ MOST_TEXT_BYTES = omega (arith, bytes_of, is.fitting.text_bytes) in
+    has_checked m is.parts
+    (ap (λ t. has_atoms t (m ∷ [])) is.atoms ∙ plain_has_atoms text m plain (atoms_table m (plain_compiles text m plain short)).table)
+    is.faithful.choice
 
 image_readable : (text : List ℕ) (m : Module) (bytes : List ℕ) → IsPlainText text m → (is : IsImageOf m bytes) → Readable bytes is.parts (m ∷ [])
 image_readable text m bytes plain is =

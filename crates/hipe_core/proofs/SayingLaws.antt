@@ -4,8 +4,8 @@ use Rattle.std.proofs.lemmas.List.{take-append-le}
 use Rattle.std.proofs.Math.Seq.{take-length, take-append_seam, drop-append_seam}
 use Rattle.hipe_base.proofs.PutLaws.{FallsBy-again, with_more-next}
 use Rattle.hipe_base.specs.Count.{most}
-use Rattle.hipe_base.specs.Sink.{with_more, IsShort, FallsBy, SinkFailed}
-use Rattle.hipe_core.specs.Saying.{Seen, Says}
+use Rattle.hipe_base.specs.Sink.{Seen, with_more, IsShort, FallsBy, SinkFailed}
+use Rattle.hipe_core.specs.Saying.{Says}
 
 -- a room that was short for a part is short for the whole
 short_for_both : (k n m : ℕ) (room mid : Option ℕ) → m ≡ k + n → FallsBy k room mid → IsShort mid n → IsShort room m

@@ -5,18 +5,18 @@ use Rattle.std.specs.List.{list_all}
 use Rattle.std.proofs.lemmas.Bool.{and_from}
 use Rattle.std.proofs.lemmas.Cmp.{nat_list_eq_equiv}
 use Rattle.std.proofs.lemmas.List.Folds.{list_any-append}
-use Rattle.asm_text.specs.declared.stand.Form.{Form}
+use Rattle.text_forms.specs.declared.form.Form.{Form}
 use Rattle.beam_code.specs.declared.module.Module.{Module}
-use Rattle.constant_code.specs.Compiled.{with_names, export_name, function_name, atoms_of}
-use Rattle.native_link.specs.Atoms.{is_among}
+use Rattle.constant_code.specs.Compiled.{export_name, function_name, atoms_of}
 use Rattle.native_link.specs.Checking.{has_atoms}
-use Rattle.native_link.specs.Known.{reserved, begins, knows_function, knows_module}
+use Rattle.native_link.specs.Known.{knows_function, knows_module}
 use Rattle.plain_text.specs.declared.plain.Constant.{Constant}
 use Rattle.plain_text.specs.declared.plain.Plain.{Plain}
 use Rattle.plain_text.specs.Module.{function_of, functions_of, module_of}
 use Rattle.plain_text.specs.Reading.{IsPlainText}
-use Rattle.tagged_words.specs.Atoms.{first_atoms}
-use Rattle.tagged_words.specs.Laid.{same_text, with_atom}
+use Rattle.tagged_words.specs.Atoms.{IsTable, begins, first_atoms, is_among}
+use Rattle.tagged_words.specs.Laid.{with_atom, with_names}
+use Rattle.term_tree.specs.Name.{same_name}
 use Rattle.term_tree.proofs.TermLaws.{both_hold}
 
 or_true : (b : Bool) → b || true ≡ true
@@ -25,11 +25,11 @@ or_true false = refl
 
 -- an atom stays where others come behind
 still_among : (table more : List (List ℕ)) (a : List ℕ) → is_among a table ≡ true → is_among a (table ++ more) ≡ true
-still_among table more a here = list_any-append (same_text a) table more ∙ ap (λ b. b || is_among a more) here
+still_among table more a here = list_any-append (same_name a) table more ∙ ap (λ b. b || is_among a more) here
 
 last_among : (table : List (List ℕ)) (a : List ℕ) → is_among a (table ++ a ∷ []) ≡ true
 last_among table a =
-    list_any-append (same_text a) table (a ∷ []) ∙ ap (λ b. is_among a table || (b || false)) (nat_list_eq_equiv.refl a) ∙ or_true (is_among a table)
+    list_any-append (same_name a) table (a ∷ []) ∙ ap (λ b. is_among a table || (b || false)) (nat_list_eq_equiv.refl a) ∙ or_true (is_among a table)
 
 still_with : (table : List (List ℕ)) (a b : List ℕ) → is_among b table ≡ true → is_among b (with_atom table a) ≡ true
 still_with table a b here = go (is_among a table)
@@ -64,25 +64,6 @@ still_all table more [] here = refl
 still_all table more (n ∷ ns) here =
     let both = both_hold (is_among n table) (all_among table ns) here in
     and_from (is_among n (with_names table more)) (all_among (with_names table more) ns) (still_named table more n both.0) (still_all table more ns both.1)
-
--- the atoms that a table begins with stay
-still_begins : (front table more : List (List ℕ)) → begins front table ≡ true → begins front (table ++ more) ≡ true
-still_begins [] table more here = refl
-still_begins (r ∷ rs) [] more here = absurd cc
-still_begins (r ∷ rs) (a ∷ table) more here =
-    let both = both_hold (same_text r a) (begins rs table) here in
-    and_from (same_text r a) (begins rs (table ++ more)) both.0 (still_begins rs table more both.1)
-
-begins_with : (front table : List (List ℕ)) (a : List ℕ) → begins front table ≡ true → begins front (with_atom table a) ≡ true
-begins_with front table a here = go (is_among a table)
-  where
-    go : (t : Bool) → begins front (if t then table else table ++ a ∷ []) ≡ true
-    go true = here
-    go false = still_begins front table (a ∷ []) here
-
-begins_named : (front table names : List (List ℕ)) → begins front table ≡ true → begins front (with_names table names) ≡ true
-begins_named front table [] here = here
-begins_named front table (n ∷ ns) here = begins_named front (with_atom table n) ns (begins_with front table n here)
 
 exports_known : (table : List (List ℕ)) (es : List (List ℕ × ℕ)) → all_among table (map export_name es) ≡ true → list_all (λ e. is_among e.0 table) es ≡ true
 exports_known table [] here = refl
@@ -123,16 +104,7 @@ made_known first text forms p =
     and_from (is_among m.name table && list_all (λ e. is_among e.0 table) m.exports) (list_all (knows_function table) m.functions)
     (and_from (is_among m.name table) (list_all (λ e. is_among e.0 table) m.exports) owner exports) functions
 
-behind_begins : (front first : List (List ℕ)) (m : Module) → begins front first ≡ true → begins front (table_behind first m) ≡ true
-behind_begins front first m here =
-    begins_named front (with_names (with_atom first m.name) (map export_name m.exports)) (map function_name m.functions)
-    (begins_named front (with_atom first m.name) (map export_name m.exports) (begins_with front first m.name here))
-
-made_has : (text : List ℕ) (forms : List Form) (p : Plain) → has_atoms (atoms_of (module_of text forms p)) (module_of text forms p ∷ []) ≡ true
-made_has text forms p =
-    and_from (begins reserved (atoms_of (module_of text forms p))) (knows_module (atoms_of (module_of text forms p)) (module_of text forms p) && true)
-    (behind_begins reserved first_atoms (module_of text forms p) refl)
-    (and_from (knows_module (atoms_of (module_of text forms p)) (module_of text forms p)) true (made_known first_atoms text forms p) refl)
-
-pub plain_has_atoms : (text : List ℕ) (m : Module) → IsPlainText text m → has_atoms (atoms_of m) (m ∷ []) ≡ true
-plain_has_atoms text m plain = subst (λ (x : Module). has_atoms (atoms_of x) (x ∷ []) ≡ true) (sym plain.is) (made_has text plain.forms plain.plain)
+pub plain_has_atoms : (text : List ℕ) (m : Module) → IsPlainText text m → IsTable (atoms_of m) → has_atoms (atoms_of m) (m ∷ []) ≡ true
+plain_has_atoms text m plain table =
+    and_from (begins first_atoms (atoms_of m)) (knows_module (atoms_of m) m && true) table.first
+    (and_from (knows_module (atoms_of m) m) true (subst (λ (x : Module). knows_module (atoms_of x) x ≡ true) (sym plain.is) (made_known first_atoms text plain.forms plain.plain)) refl)

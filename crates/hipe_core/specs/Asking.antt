@@ -4,14 +4,14 @@ use Rattle.asm_text.specs.Entry.{entry_of}
 use Rattle.hipe_core.specs.declared.asking.Asked as code
 use Rattle.hipe_core.specs.declared.asking.Asked.TheVariants as a
 use Rattle.hipe_core.specs.declared.asking.RunWords as words
-use Rattle.mode_switch.specs.Machine.{AreInRange}
+use Rattle.mode_switch.specs.Call.{IsInRange}
 use Rattle.hipe_core.specs.Words.{Asked, Nothing, Compile, Run, Three, is_digit}
 
 -- the code's answer is that
 abbrev pub IsAsked : code.Asked → Asked → Type 0
 IsAsked a.Nothing q = q ≡ Nothing
 IsAsked (a.Compile file) q = q ≡ Compile file.now
-IsAsked (a.Run image entry args limits) q = (q ≡ Run image.now entry.now args.now limits) × (is_some (entry_of entry.now) ≡ true) × AreInRange limits
+IsAsked (a.Run image entry args limits) q = (q ≡ Run image.now entry.now args.now limits) × (is_some (entry_of entry.now) ≡ true) × IsInRange limits
 
 -- the code tells the three words
 abbrev pub three_in : Option words.RunWords → Option Three

@@ -1,16 +1,17 @@
 -- How a command ends, and what it says (docs/COMMANDS.md).
-use Rattle.std.specs.Prelude.{ℕ, ◌≡◌, ◌≤◌, ◌⊎◌, Bool, true, false, Option, Some, None, Ok, Err, List, [], ◌++◌, length, codes, decimal}
+use Rattle.std.specs.Prelude.{ℕ, ◌≡◌, ◌≤◌, ◌⊎◌, Bool, true, false, Option, Some, None, Ok, Err, List, [], ◌++◌, length, codes, decimal, nat_eq, not}
 use Rattle.asm_text.specs.Entry.{entry_of}
 use Rattle.asm_text.specs.Reading.{reading, arguments}
-use Rattle.asm_text.specs.declared.token.Kind.{Kind}
-use Rattle.asm_text.specs.declared.token.Kind.TheVariants as kind
-use Rattle.asm_text.specs.declared.token.TextRefusal.{TextRefusal}
-use Rattle.asm_text.specs.declared.token.TextRefusal.TheVariants as refusal
+use Rattle.text_tokens.specs.declared.token.Kind.{Kind}
+use Rattle.text_tokens.specs.declared.token.Kind.TheVariants as kind
+use Rattle.text_forms.specs.declared.refusal.TextRefusal.{TextRefusal}
+use Rattle.text_forms.specs.declared.refusal.TextRefusal.TheVariants as refusal
 use Rattle.beam_code.specs.declared.call.Limits.{Limits}
 use Rattle.beam_code.specs.declared.module.Module.{Module}
 use Rattle.beam_code.specs.Function.{exported_number}
 use Rattle.hipe_base.specs.Count.{RoseBy}
-use Rattle.hipe_base.specs.Files.{Held, HoldsFile, FilesFailed}
+use Rattle.hipe_base.specs.Files.{Held, Told, HoldsFile, FilesFailed}
+use Rattle.hipe_base.specs.Sink.{Seen}
 use Rattle.hipe_base.specs.Reading.{IsLonger}
 use Rattle.hipe_core.specs.declared.ending.Ending.{Ending}
 use Rattle.hipe_core.specs.declared.ending.Ending.TheVariants.{Done, Said, Usage, TextRefused, ArgsRefused, NotExported, CannotRead, TooLong, NotBuilt, Refused, CannotWrite, NoMemory}
@@ -19,12 +20,13 @@ use Rattle.hipe_core.specs.declared.ending.Flaw.TheVariants as flaw
 use Rattle.hipe_core.specs.declared.ending.TextFlaw.{TextFlaw}
 use Rattle.hipe_core.specs.declared.ending.TextFlaw.TheVariants as text
 use Rattle.hipe_core.specs.Image.{IsImageOf, IsCompiled}
-use Rattle.hipe_core.specs.Saying.{Seen, Says}
+use Rattle.hipe_core.specs.Saying.{Says}
 use Rattle.hipe_core.specs.Words.{Asked, Nothing, Compile, Run}
-use Rattle.mode_switch.specs.declared.outcome.Outcome.{Outcome}
-use Rattle.mode_switch.specs.Machine.{ran}
-use Rattle.mode_switch.specs.Start.{loaded_of, opened as opened_at}
-use Rattle.mode_switch.specs.Text.{said}
+use Rattle.faithful_image.specs.Line.{printed_line}
+use Rattle.mode_switch.specs.Call.{call_of}
+use Rattle.mode_switch.specs.declared.text.TheConstants.{NOT_BUILT_STATUS}
+use Rattle.beam_code.specs.declared.module.TheConstants.{MOST_TEXT_BYTES}
+use Rattle.native_link.specs.declared.limits.TheConstants.{MOST_IMAGE_BYTES}
 use Rattle.native_link.specs.Checking.{Linked}
 use Rattle.native_link.specs.declared.refusal.ImageRefusal.{ImageRefusal}
 use Rattle.native_link.specs.declared.refusal.ImageRefusal.TheVariants as fault
@@ -32,14 +34,6 @@ use Rattle.native_link.specs.Image.{Answers}
 use Rattle.plain_text.specs.Reading.{IsOtherText}
 use Rattle.term_tree.specs.declared.term.Term.{Term}
 use Rattle.term_tree.specs.Text.{atom_text}
-
--- the most bytes of a text
-abbrev pub most_text : ℕ
-most_text = 4194304
-
--- the most bytes of an image
-abbrev pub most_image : ℕ
-most_image = 536870912
 
 -- the status of an ending
 abbrev pub status_of : Ending → ℕ
@@ -117,9 +111,9 @@ pub record Opened : Type 0 where
   pub taken : ℕ
   pub taken_after : ℕ
 
-abbrev pub opened : Held → ℕ → ℕ → ℕ → ℕ → Opened
-opened held faults faults_after taken taken_after =
-    record { held = held; faults = faults; faults_after = faults_after; taken = taken; taken_after = taken_after }
+abbrev pub opened : Told → Told → Opened
+opened before after =
+    record { held = before.held; faults = before.faults; faults_after = after.faults; taken = before.taken; taken_after = after.taken }
 
 -- nothing was written
 abbrev pub IsUntouched : Seen → Seen → Type 0
@@ -158,28 +152,23 @@ Writes _ text before after = ⊥
 
 -- the file's text led to that
 abbrev pub CompilesText : Ending → List ℕ → Opened → Seen → Seen → Type 0
-CompilesText ending file f before after = (text : List ℕ) × HoldsFile f.held file text × (length text ≤ most_text) × Writes ending text before after
+CompilesText ending file f before after = (text : List ℕ) × HoldsFile f.held file text × (length text ≤ MOST_TEXT_BYTES) × Writes ending text before after
 
 -- how the compilation of a file may end: it cannot be read only where a fault is counted; it is too long exactly where it
 -- passes the limit; and else what its text decides
 abbrev pub Compiles : Ending → List ℕ → Opened → Seen → Seen → Type 0
 Compiles CannotRead file f before after = FilesFailed f.faults f.faults_after f.held file × IsUntouched before after
-Compiles TooLong file f before after = (RoseBy f.taken most_text f.taken_after × IsLonger f.held file most_text) × IsUntouched before after
+Compiles TooLong file f before after = (RoseBy f.taken MOST_TEXT_BYTES f.taken_after × IsLonger f.held file MOST_TEXT_BYTES) × IsUntouched before after
 Compiles NoMemory file f before after = IsUntouched before after
 Compiles ending file f before after = CompilesText ending file f before after
 
--- the outcome of a call without arguments under limits, by the number of its function
-abbrev pub outcome_of : Linked → Limits → ℕ → Outcome
-outcome_of image limits function = (ran (opened_at (loaded_of image.modules image.parts limits) function)).answer
-
--- the run of a call on an image, and its outcome; at this stage only functions without arguments are exported
-pub record RunsTo (bytes m f : List ℕ) (args : List Term) (limits : Limits) (outcome : Outcome) : Type 0 where
+-- the line of the run of a call on an image, with its status
+pub record RunsTo (bytes m f : List ℕ) (args : List Term) (limits : Limits) (line : List ℕ × ℕ) : Type 0 where
   pub image : Linked
   pub read : Answers bytes (Ok image)
-  pub none : args ≡ []
   pub function : ℕ
   pub exported : exported_number image.modules m f (length args) ≡ Some function
-  pub is : outcome ≡ outcome_of image limits function
+  pub is : line ≡ printed_line image.modules image.parts (call_of function args limits [])
 
 -- a refusal of an image as a word and an offset
 abbrev pub IsFlaw : ImageRefusal → Flaw → ℕ → Type 0
@@ -192,21 +181,25 @@ IsFlaw (fault.Order offset) f at = (f ≡ flaw.Order) × (at ≡ offset)
 IsFlaw (fault.Long offset) f at = (f ≡ flaw.Long) × (at ≡ offset)
 IsFlaw _ f at = ⊥
 
--- what was written of an outcome: its line; nothing of one that has none yet
-abbrev pub SaysOutcome : Ending → Outcome → Seen → Seen → Type 0
-SaysOutcome (Said status) o before after = (line : List ℕ) × (said o ≡ Some (line, status)) × (Says true line before after)
-SaysOutcome CannotWrite o before after = (line : List ℕ) × (status : ℕ) × (said o ≡ Some (line, status)) × (Says false line before after)
-SaysOutcome NotBuilt o before after = (said o ≡ None) × IsUntouched before after
-SaysOutcome NoMemory o before after = IsUntouched before after
-SaysOutcome _ o before after = ⊥
+-- whether an outcome is printed today
+abbrev pub is_printed : List ℕ × ℕ → Bool
+is_printed line = not (nat_eq line.1 NOT_BUILT_STATUS)
+
+-- what was written of an outcome with this line and status: the line; nothing of one that has none yet
+abbrev pub SaysLine : Ending → List ℕ × ℕ → Seen → Seen → Type 0
+SaysLine (Said status) line before after = (is_printed line ≡ true) × (status ≡ line.1) × Says true line.0 before after
+SaysLine CannotWrite line before after = (is_printed line ≡ true) × Says false line.0 before after
+SaysLine NotBuilt line before after = (is_printed line ≡ false) × IsUntouched before after
+SaysLine NoMemory line before after = IsUntouched before after
+SaysLine _ line before after = ⊥
 
 -- how the run of a call on an image may end, by the number of its function
 abbrev pub RunsFunction : Ending → Linked → Limits → List Term → Option ℕ → Seen → Seen → Type 0
 RunsFunction (NotExported count) image limits args None before after = (count ≡ length args) × IsUntouched before after
-RunsFunction NoMemory image limits args (Some function) before after = IsUntouched before after
-RunsFunction ending image limits args (Some function) before after = (args ≡ []) × SaysOutcome ending (outcome_of image limits function) before after
 RunsFunction NoMemory image limits args None before after = IsUntouched before after
 RunsFunction _ image limits args None before after = ⊥
+RunsFunction ending image limits args (Some function) before after =
+    SaysLine ending (printed_line image.modules image.parts (call_of function args limits [])) before after
 
 -- a call: the names of its module and its function, its arguments and its limits
 pub record Called : Type 0 where
@@ -229,21 +222,21 @@ RunsBytes (NotExported count) bytes c before after =
     ((image : Linked) × Answers bytes (Ok image) × (exported_number image.modules c.owner c.function (length c.args) ≡ None))
     × (count ≡ length c.args) × IsUntouched before after
 RunsBytes NotBuilt bytes c before after =
-    (Answers bytes (Err fault.NotBuilt) ⊎ ((o : Outcome) × RunsTo bytes c.owner c.function c.args c.limits o × (said o ≡ None))) × IsUntouched before after
-RunsBytes (Said status) bytes c before after = (o : Outcome) × RunsTo bytes c.owner c.function c.args c.limits o × SaysOutcome (Said status) o before after
-RunsBytes CannotWrite bytes c before after = (o : Outcome) × RunsTo bytes c.owner c.function c.args c.limits o × SaysOutcome CannotWrite o before after
+    (Answers bytes (Err fault.NotBuilt) ⊎ ((line : List ℕ × ℕ) × RunsTo bytes c.owner c.function c.args c.limits line × (is_printed line ≡ false))) × IsUntouched before after
+RunsBytes (Said status) bytes c before after = (line : List ℕ × ℕ) × RunsTo bytes c.owner c.function c.args c.limits line × SaysLine (Said status) line before after
+RunsBytes CannotWrite bytes c before after = (line : List ℕ × ℕ) × RunsTo bytes c.owner c.function c.args c.limits line × SaysLine CannotWrite line before after
 RunsBytes NoMemory bytes c before after = IsUntouched before after
 RunsBytes _ bytes c before after = ⊥
 
 -- the bytes of a file led to that
 abbrev pub RunsHeld : Ending → List ℕ → Called → Opened → Seen → Seen → Type 0
 RunsHeld ending file c f before after =
-    (bytes : List ℕ) × HoldsFile f.held file bytes × (length bytes ≤ most_image) × RunsBytes ending bytes c before after
+    (bytes : List ℕ) × HoldsFile f.held file bytes × (length bytes ≤ MOST_IMAGE_BYTES) × RunsBytes ending bytes c before after
 
 -- how a run on a file may end
 abbrev pub RunsFile : Ending → List ℕ → Called → Opened → Seen → Seen → Type 0
 RunsFile CannotRead file c f before after = FilesFailed f.faults f.faults_after f.held file × IsUntouched before after
-RunsFile TooLong file c f before after = (RoseBy f.taken most_image f.taken_after × IsLonger f.held file most_image) × IsUntouched before after
+RunsFile TooLong file c f before after = (RoseBy f.taken MOST_IMAGE_BYTES f.taken_after × IsLonger f.held file MOST_IMAGE_BYTES) × IsUntouched before after
 RunsFile NoMemory file c f before after = IsUntouched before after
 RunsFile ending file c f before after = RunsHeld ending file c f before after
 

@@ -2,9 +2,9 @@
 use Rattle.std.specs.Prelude.{ℕ, ◌≡◌, List, [], ◌∷◌, length}
 use Rattle.beam_code.specs.declared.module.Module.{Module}
 use Rattle.constant_code.specs.Compiled.{numbers_from, atoms_of}
-use Rattle.constant_code.specs.Image.{HasMeaning}
-use Rattle.faithful_image.specs.Call.{Call, IsFitting as IsCall}
 use Rattle.faithful_image.specs.Faithful.{IsFaithful}
+use Rattle.faithful_image.specs.Meaning.{HasMeaning}
+use Rattle.mode_switch.specs.Call.{Call, IsCallOf}
 use Rattle.native_link.specs.declared.parts.Parts.{Parts}
 use Rattle.native_link.specs.Fitting.{IsFitting, IsSized}
 use Rattle.native_link.specs.Spelling.{spelling}
@@ -22,7 +22,7 @@ pub record IsImageOf (m : Module) (bytes : List ℕ) : Type 0 where
   pub roots : parts.roots ≡ []
   pub descriptors : parts.descriptors ≡ []
   pub faithful : IsFaithful (m ∷ []) (numbers_from 0 (length m.functions)) parts
-  pub meanings : (call : Call) → IsCall (m ∷ []) call → HasMeaning (m ∷ []) call
+  pub meanings : (call : Call) → IsCallOf (m ∷ []) call → HasMeaning (m ∷ []) call
 
 -- the text is plain, and the bytes are an image of its module
 pub record IsCompiled (text bytes : List ℕ) : Type 0 where

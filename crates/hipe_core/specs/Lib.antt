@@ -5,3 +5,4 @@ pub mod Command
 pub mod Asking
 pub mod Running
 pub mod Meaning
+pub mod Numbers

@@ -1,43 +1,33 @@
 -- The line that a text means of a call, and the reading of what is compiled of it (docs/COMMANDS.md, run; docs/MACHINE.md, Outcomes).
-use Rattle.std.specs.Prelude.{ℕ, ◌≡◌, Some, Ok, Err, List, [], ◌∷◌}
+use Rattle.std.specs.Prelude.{ℕ, ◌≡◌, Some, Ok, Err, List, [], ◌∷◌, length, true}
 use Rattle.std.specs.declared.alloc.AllocError.{AllocError}
 use Rattle.beam_code.specs.declared.call.Limits.{Limits}
 use Rattle.beam_code.specs.declared.module.Module.{Module}
-use Rattle.faithful_image.specs.Call.{IsInRange}
 use Rattle.term_tree.specs.declared.term.Term.{Term}
 use Rattle.beam_code.specs.Function.{exported_number}
-use Rattle.constant_code.specs.Line.{MeansLine}
-use Rattle.hipe_core.specs.Command.{RunsTo}
+use Rattle.faithful_image.specs.Line.{MeansLine}
+use Rattle.hipe_core.specs.Command.{RunsTo, is_printed}
 use Rattle.hipe_core.specs.Image.{IsCompiled}
-use Rattle.mode_switch.specs.declared.outcome.Outcome.{Outcome}
-use Rattle.mode_switch.specs.Text.{said}
+use Rattle.mode_switch.specs.Call.{IsInRange, call_of}
 use Rattle.native_link.specs.Checking.{Linked}
 use Rattle.native_link.specs.declared.refusal.ImageRefusal.{ImageRefusal}
 use Rattle.native_link.specs.declared.refusal.ImageRefusal.TheVariants as fault
 use Rattle.native_link.specs.Image.{Answers}
 use Rattle.plain_text.specs.Reading.{IsPlainText}
 
--- the text is that of a module which exports the function without arguments, and a call of it under these limits means
--- this line and this status
-pub record TextMeans (text owner name : List ℕ) (limits : Limits) (line : List ℕ) (status : ℕ) : Type 0 where
+-- the text is that of a module which exports the function, and a call of it with these arguments means this line
+pub record TextMeans (text owner name : List ℕ) (args : List Term) (limits : Limits) (line : List ℕ × ℕ) : Type 0 where
   pub source : Module
   pub read : IsPlainText text source
   pub function : ℕ
-  pub exported : exported_number (source ∷ []) owner name 0 ≡ Some function
-  pub means : MeansLine (source ∷ []) limits function (Some (line, status))
-
--- the outcome is printed as the text means it
-pub record PrintsText (text owner name : List ℕ) (limits : Limits) (outcome : Outcome) : Type 0 where
-  pub line : List ℕ
-  pub status : ℕ
-  pub means : TextMeans text owner name limits line status
-  pub prints : said outcome ≡ Some (line, status)
+  pub exported : exported_number (source ∷ []) owner name (length args) ≡ Some function
+  pub means : MeansLine (source ∷ []) (call_of function args limits []) line
 
 -- a run on what is compiled of a text prints what the text means
 abbrev pub CompiledRunsPrintTheirMeaning : Type 0
 CompiledRunsPrintTheirMeaning =
-    (text bytes owner name : List ℕ) (args : List Term) (limits : Limits) (outcome : Outcome) → IsInRange limits → IsCompiled text bytes
-    → RunsTo bytes owner name args limits outcome → PrintsText text owner name limits outcome
+    (text bytes owner name : List ℕ) (args : List Term) (limits : Limits) (line : List ℕ × ℕ) → IsInRange limits → IsCompiled text bytes
+    → RunsTo bytes owner name args limits line → TextMeans text owner name args limits line × (is_printed line ≡ true)
 
 -- the bytes are read as an image of this one module, and nothing but want of memory keeps them from being read
 pub record IsReadAs (m : Module) (bytes : List ℕ) : Type 0 where
@@ -46,11 +36,12 @@ pub record IsReadAs (m : Module) (bytes : List ℕ) : Type 0 where
   pub modules : image.modules ≡ m ∷ []
   pub refused : (e : ImageRefusal) → Answers bytes (Err e) → (want : AllocError) × (e ≡ fault.Memory want)
 
--- a run of a call without arguments comes to an outcome, which is printed as the text means it
+-- a run of a call without arguments comes to a line, which is printed as the text means it
 pub record IsPrinted (text bytes owner name : List ℕ) (limits : Limits) : Type 0 where
-  pub outcome : Outcome
-  pub runs : RunsTo bytes owner name [] limits outcome
-  pub prints : PrintsText text owner name limits outcome
+  pub line : List ℕ × ℕ
+  pub runs : RunsTo bytes owner name [] limits line
+  pub means : TextMeans text owner name [] limits line
+  pub printed : is_printed line ≡ true
 
 -- the bytes are read as an image of the text's module, and each function that it exports without arguments is run and
 -- printed, under all limits in range

@@ -2,8 +2,8 @@
 use Rattle.hipe_core.specs.Command.{IsFlaw, IsTextFlaw}
 use Rattle.hipe_core.specs.declared.ending.Ending.{Ending}
 use Rattle.hipe_core.specs.declared.ending.Ending.TheVariants.{NotBuilt, Refused, TextRefused, ArgsRefused, NoMemory}
-use Rattle.asm_text.specs.declared.token.TextRefusal.{TextRefusal}
-use Rattle.asm_text.specs.declared.token.TextRefusal.TheVariants as refusal
+use Rattle.text_forms.specs.declared.refusal.TextRefusal.{TextRefusal}
+use Rattle.text_forms.specs.declared.refusal.TextRefusal.TheVariants as refusal
 use Rattle.native_link.specs.declared.refusal.ImageRefusal.{ImageRefusal}
 use Rattle.native_link.specs.declared.refusal.ImageRefusal.TheVariants as fault
 

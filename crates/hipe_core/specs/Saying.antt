@@ -1,15 +1,6 @@
 -- What a sink took of a text: all of it, or a prefix where it failed (docs/COMMANDS.md, Messages).
-use Rattle.std.specs.Prelude.{ℕ, ◌≡◌, ◌≤◌, Bool, true, false, List, length, take, Option}
-use Rattle.hipe_base.specs.Sink.{with_more, FallsBy, SinkFailed}
-
--- what a sink tells
-pub record Seen : Type 0 where
-  pub written : Option (List ℕ)
-  pub room : Option ℕ
-  pub faults : ℕ
-
-abbrev pub seen : Option (List ℕ) → Option ℕ → ℕ → Seen
-seen written room faults = record { written = written; room = room; faults = faults }
+use Rattle.std.specs.Prelude.{ℕ, ◌≡◌, ◌≤◌, Bool, true, false, List, length, take}
+use Rattle.hipe_base.specs.Sink.{Seen, with_more, FallsBy, SinkFailed}
 
 -- between the two states the sink took the text, whole or in part
 pub record Says (whole : Bool) (text : List ℕ) (before after : Seen) : Type 0 where

@@ -1,9 +1,11 @@
 -- What the words of a command line ask (docs/COMMANDS.md).
-use Rattle.std.specs.Prelude.{ℕ, ◌+◌, ◌-◌, ◌*◌, Bool, true, false, ◌&&◌, ◌==◌, nat_le, if◌then◌else◌, is_some, Option, Some, None, List, [], ◌∷◌, length, take, drop, codes}
+use Rattle.std.specs.Prelude.{ℕ, ◌+◌, ◌-◌, ◌*◌, Bool, true, false, ◌&&◌, nat_le, if◌then◌else◌, is_some, Option, Some, None, List, [], ◌∷◌, length, take, drop, codes}
 use Rattle.std.specs.List.{list_all}
-use Rattle.std.specs.Cmp.Lexicographic.{pointwise}
 use Rattle.asm_text.specs.Entry.{entry_of}
 use Rattle.beam_code.specs.declared.call.Limits.{Limits}
+use Rattle.hipe_core.specs.declared.asking.TheConstants.{REDUCTIONS_DEFAULT, WORDS_DEFAULT}
+use Rattle.mode_switch.specs.declared.addresses.TheConstants.{MOST_REDUCTIONS, MOST_WORDS}
+use Rattle.term_tree.specs.Name.{same_name}
 
 -- a command with its words, or none: a file to compile; or an image, the entry of a call, its arguments and its limits
 pub data Asked : Type 0 where
@@ -11,12 +13,9 @@ pub data Asked : Type 0 where
   Compile : List ℕ → Asked
   Run : List ℕ → List ℕ → List ℕ → Limits → Asked
 
-abbrev pub same_word : List ℕ → List ℕ → Bool
-same_word a b = pointwise ◌==◌ a b
-
 -- what stands behind the beginning of a word, where it begins so
 abbrev pub behind : List ℕ → List ℕ → Option (List ℕ)
-behind front word = if pointwise ◌==◌ (take (length front) word) front then Some (drop (length front) word) else None
+behind front word = if same_name (take (length front) word) front then Some (drop (length front) word) else None
 
 -- a word that begins with two hyphens is an option
 abbrev pub is_option : List ℕ → Bool
@@ -69,13 +68,6 @@ are_digits (d ∷ ds) = list_all is_digit (d ∷ ds)
 abbrev pub number_in : ℕ → List ℕ → Option ℕ
 number_in most ds = if are_digits ds && nat_le (number_after 0 ds) most then Some (number_after 0 ds) else None
 
--- the most that an option may say
-abbrev pub most_reductions : ℕ
-most_reductions = 1000000000
-
-abbrev pub most_words : ℕ
-most_words = 16777216
-
 -- a limit by the values of its option: at most one, and in its range
 abbrev pub limit : ℕ → ℕ → List (List ℕ) → Option ℕ
 limit default most [] = Some default
@@ -90,8 +82,8 @@ limits_with (Some r) (Some h) (Some s) = Some (record { reductions = r; heap = h
 
 abbrev pub limits_of : List (List ℕ) → Option Limits
 limits_of words =
-    limits_with (limit 1000000 most_reductions (values reductions_option words)) (limit 1048576 most_words (values heap_option words))
-    (limit 1048576 most_words (values stack_option words))
+    limits_with (limit REDUCTIONS_DEFAULT MOST_REDUCTIONS (values reductions_option words)) (limit WORDS_DEFAULT MOST_WORDS (values heap_option words))
+    (limit WORDS_DEFAULT MOST_WORDS (values stack_option words))
 
 -- the one word of a list of one, and the three of a list of three
 abbrev pub only_of : List (List ℕ) → Option (List ℕ)
@@ -114,7 +106,7 @@ three_of (a ∷ b ∷ c ∷ d ∷ ws) = None
 abbrev pub compile_with : Option (List ℕ) → Option (List ℕ) → Asked
 compile_with None file = Nothing
 compile_with (Some choice) None = Nothing
-compile_with (Some choice) (Some file) = if same_word choice (codes "all") then Compile file else Nothing
+compile_with (Some choice) (Some file) = if same_name choice (codes "all") then Compile file else Nothing
 
 abbrev pub compile_of : List (List ℕ) → Asked
 compile_of words = if list_all fits_compile words then compile_with (only_of (values native_option words)) (only_of (others words)) else Nothing
@@ -130,6 +122,6 @@ run_of words = if list_all fits_run words then run_with (limits_of words) (three
 abbrev pub asked : List (List ℕ) → Asked
 asked [] = Nothing
 asked (command ∷ words) =
-    if same_word command (codes "compile") then compile_of words
-    else if same_word command (codes "run") then run_of words
+    if same_name command (codes "compile") then compile_of words
+    else if same_name command (codes "run") then run_of words
     else Nothing

@@ -3,13 +3,14 @@
 ghost use Rattle.asm_text.specs.Entry.{entry_of};
 ghost use Rattle.hipe_core.specs.Asking.{IsAsked, number_from, three_in};
 ghost use Rattle.hipe_core.specs.Words as spec;
-ghost use Rattle.mode_switch.specs.Machine.{AreInRange};
+ghost use Rattle.mode_switch.specs.Call.{IsInRange};
 ghost use Rattle.std.specs.List.{list_all};
 ghost use Rattle.std.specs.Option.{option_copied};
 ghost use Rattle.std.specs.Prelude.{◌≡◌, ◌≤◌, map, slice_get, string_bytes, IfSome};
 
 use asm_text::is_entry;
 use beam_code::Limits;
+use mode_switch::{MOST_REDUCTIONS, MOST_WORDS};
 
 /// The beginnings of options.
 const NATIVE: &[u8] = b"--native=";
@@ -23,15 +24,10 @@ const STACK: &[u8] = b"--stack=";
 /// The choice of all functions.
 const ALL: &[u8] = b"all";
 
-/// The most reductions of a call, and the most words of its heap and of its stack.
-const MOST_REDUCTIONS: u32 = 1_000_000_000;
+/// The reductions of a call that names none, and the words of its heap and of its stack.
+pub const REDUCTIONS_DEFAULT: u32 = 1_000_000;
 
-const MOST_WORDS: u32 = 16_777_216;
-
-/// The limits of a call that names none.
-const REDUCTIONS_DEFAULT: u32 = 1_000_000;
-
-const WORDS_DEFAULT: u32 = 1_048_576;
+pub const WORDS_DEFAULT: u32 = 1_048_576;
 
 /// What the words of a command line ask.
 pub enum Asked<'a> {
@@ -204,7 +200,7 @@ fn limit(option: &[u8], default: u32, most: u32, words: &[String]) -> Option<u32
 
 fn limits_of(words: &[String]) -> Option<Limits>
     ensures limits { result ≡ spec.limits_of (map string_bytes words.now) }
-    ensures within { IfSome result AreInRange }
+    ensures within { IfSome result IsInRange }
 {
     let reductions = limit(REDUCTIONS, REDUCTIONS_DEFAULT, MOST_REDUCTIONS, words)?;
     let heap = limit(HEAP, WORDS_DEFAULT, MOST_WORDS, words)?;

@@ -1,5 +1,7 @@
-ghost use Rattle.constant_code.specs.Compiled.{moved_at, value_of, IsReady, words_of, code_of, natives_from, with_names, export_name, function_name, atoms_of, compiled, IsCompilable};
+ghost use Rattle.constant_code.specs.Compiled.{moved_at, value_of, IsReady, words_of, code_of, natives_from, export_name, function_name, atoms_of, compiled, IsCompilable};
+ghost use Rattle.tagged_words.specs.Laid.{with_names};
 ghost use Rattle.std.specs.List.{AllByRecursion};
+ghost use Rattle.tagged_words.specs.declared.addresses.TheConstants.{MOST_ATOM_NUMBERS};
 ghost use Rattle.std.specs.Prelude.{◌≡◌, ◌≤◌, ◌<◌, ◌^◌, ◌*◌, ◌+◌, ◌++◌, ◌∷◌, [], length, map, slice_get, IfOk, OnOk};
 
 use crate::emitting::emit;
@@ -67,8 +69,11 @@ fn natives(alloc: Global, count: u32) -> Result<Items<Native>, AllocError>
     Ok(natives)
 }
 
+#[tactic(auto, using(tagged_words::proofs::Tables::few_with))]
 fn add_exports(alloc: Global, atoms: &mut Atoms, exports: &[(Name, u8)]) -> Result<(), AllocError>
-    ensures { OnOk result (atoms.new ≡ with_names atoms.old (map export_name exports.now)) }
+    requires { length atoms.old + length exports.now ≤ MOST_ATOM_NUMBERS }
+    ensures names { OnOk result (atoms.new ≡ with_names atoms.old (map export_name exports.now)) }
+    ensures few { OnOk result (length atoms.new ≤ length atoms.old + length exports.now) }
 {
     for export in exports {
         atoms.add(export.0.copy(alloc)?)?;
@@ -76,7 +81,9 @@ fn add_exports(alloc: Global, atoms: &mut Atoms, exports: &[(Name, u8)]) -> Resu
     Ok(())
 }
 
+#[tactic(auto, using(tagged_words::proofs::Tables::few_with))]
 fn add_functions(alloc: Global, atoms: &mut Atoms, functions: &[Function]) -> Result<(), AllocError>
+    requires { length atoms.old + length functions.now ≤ MOST_ATOM_NUMBERS }
     ensures { OnOk result (atoms.new ≡ with_names atoms.old (map function_name functions.now)) }
 {
     for f in functions {
@@ -96,6 +103,7 @@ fn copies(alloc: Global, names: &[Name]) -> Result<Items<Name>, AllocError>
 }
 
 fn atoms(alloc: Global, source: &Module) -> Result<Items<Name>, AllocError>
+    requires { IsCompilable source.now }
     ensures { IfOk result (λ v. v ≡ atoms_of source.now) }
 {
     let mut atoms = Atoms::new(alloc)?;

@@ -4,9 +4,8 @@ ghost use Rattle.constant_code.specs.Compiled.{IsCompilable};
 ghost use Rattle.asm_text.specs.Entry.{entry_of};
 ghost use Rattle.hipe_core.specs.Command.{WritesImage, Writes, Compiles, IsAnswer, opened};
 ghost use Rattle.hipe_core.specs.Running.{TextRefusedAs};
-ghost use Rattle.hipe_core.specs.Saying.{seen};
 ghost use Rattle.hipe_core.specs.Words.{Asked, Run, asked};
-ghost use Rattle.mode_switch.specs.Machine.{AreInRange};
+ghost use Rattle.mode_switch.specs.Call.{IsInRange};
 ghost use Rattle.std.specs.Prelude.{◌≡◌, ◌≤◌, length, map, string_bytes, is_some, true};
 
 use crate::asking::{Asked, ask};
@@ -16,15 +15,15 @@ use crate::running::{label, run_args};
 use crate::saying::{finish, put_piece};
 use crate::{Ending, TextFlaw};
 use asm_text::{TextRefusal, read_entry};
-use beam_code::{Limits, Module};
+use beam_code::{Limits, MOST_TEXT_BYTES, Module};
 use hipe_base::{Files, ReadRefusal, Sink, read_file};
-use plain_text::{MOST_BYTES, read_plain};
+use plain_text::read_plain;
 use std::alloc::Global;
 
 /// Writes the image of a module.
 fn write_image<O: Sink>(alloc: Global, source: &Module, out: &mut O) -> Ending
     requires { IsCompilable source.now }
-    ensures { WritesImage result source.now (seen (O.written out.old) (O.room out.old) (O.faults out.old)) (seen (O.written out.new) (O.room out.new) (O.faults out.new)) }
+    ensures { WritesImage result source.now (O.seen out.old) (O.seen out.new) }
 {
     match compile(alloc, source) {
         Err(_) => Ending::NoMemory,
@@ -53,8 +52,8 @@ fn text_refused(refusal: &TextRefusal) -> Ending
 
 /// Writes the image of a text, if it is plain.
 fn compile_text<O: Sink>(alloc: Global, text: &[u8], out: &mut O) -> Ending
-    requires { length text.now ≤ MOST_BYTES }
-    ensures { Writes result text.now (seen (O.written out.old) (O.room out.old) (O.faults out.old)) (seen (O.written out.new) (O.room out.new) (O.faults out.new)) }
+    requires { length text.now ≤ MOST_TEXT_BYTES }
+    ensures { Writes result text.now (O.seen out.old) (O.seen out.new) }
 {
     match read_plain(alloc, text) {
         Err(refusal) => text_refused(&refusal),
@@ -65,9 +64,9 @@ fn compile_text<O: Sink>(alloc: Global, text: &[u8], out: &mut O) -> Ending
 
 /// Writes the image of a file, if its text is plain.
 fn compile_file<F: Files, O: Sink>(alloc: Global, file: &str, files: &mut F, out: &mut O) -> Ending
-    ensures { Compiles result file.now (opened (F.held files.old) (F.faults files.old) (F.faults files.new) (F.taken files.old) (F.taken files.new)) (seen (O.written out.old) (O.room out.old) (O.faults out.old)) (seen (O.written out.new) (O.room out.new) (O.faults out.new)) }
+    ensures { Compiles result file.now (opened (F.told files.old) (F.told files.new)) (O.seen out.old) (O.seen out.new) }
 {
-    match read_file(alloc, files, file, MOST_BYTES) {
+    match read_file(alloc, files, file, MOST_TEXT_BYTES) {
         Err(ReadRefusal::Fault) => Ending::CannotRead,
         Err(ReadRefusal::TooLong) => Ending::TooLong,
         Err(ReadRefusal::Memory(_)) => Ending::NoMemory,
@@ -87,8 +86,8 @@ fn run<F: Files, O: Sink, E: Sink>(
     err: &mut E,
 ) -> u8
     requires entry { is_some (entry_of entry.now) ≡ true }
-    requires limits { AreInRange limits }
-    ensures { IsAnswer (Run image.now entry.now args.now limits) result (opened (F.held files.old) (F.faults files.old) (F.faults files.new) (F.taken files.old) (F.taken files.new)) (seen (O.written out.old) (O.room out.old) (O.faults out.old)) (seen (O.written out.new) (O.room out.new) (O.faults out.new)) (seen (E.written err.old) (E.room err.old) (E.faults err.old)) (seen (E.written err.new) (E.room err.new) (E.faults err.new)) }
+    requires limits { IsInRange limits }
+    ensures { IsAnswer (Run image.now entry.now args.now limits) result (opened (F.told files.old) (F.told files.new)) (O.seen out.old) (O.seen out.new) (E.seen err.old) (E.seen err.new) }
 {
     let names = match read_entry(alloc, entry.as_bytes()) {
         Err(_) => return finish(err, Ending::NoMemory, image, ""),
@@ -114,7 +113,7 @@ pub fn command<F: Files, O: Sink, E: Sink>(
     out: &mut O,
     err: &mut E,
 ) -> u8
-    ensures { IsAnswer (asked (map string_bytes words.now)) result (opened (F.held files.old) (F.faults files.old) (F.faults files.new) (F.taken files.old) (F.taken files.new)) (seen (O.written out.old) (O.room out.old) (O.faults out.old)) (seen (O.written out.new) (O.room out.new) (O.faults out.new)) (seen (E.written err.old) (E.room err.old) (E.faults err.old)) (seen (E.written err.new) (E.room err.new) (E.faults err.new)) }
+    ensures { IsAnswer (asked (map string_bytes words.now)) result (opened (F.told files.old) (F.told files.new)) (O.seen out.old) (O.seen out.new) (E.seen err.old) (E.seen err.new) }
 {
     match ask(words) {
         Asked::Nothing => finish(err, Ending::Usage, "", ""),

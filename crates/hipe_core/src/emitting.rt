@@ -2,7 +2,8 @@ ghost use Rattle.constant_code.specs.Words.{entry_instrs, return_instrs, end_ins
 ghost use Rattle.native_link.specs.declared.limits.TheConstants.{MOST_FRAME};
 ghost use Rattle.sparc_code.specs.Code.{encoded, IsInWidth};
 ghost use Rattle.std.specs.Prelude.{◌≡◌, ◌≤◌, ◌<◌, ◌^◌, ◌++◌, ◌∷◌, [], map, false, OnOk, IfOk};
-ghost use Rattle.tagged_words.specs.Word.{IsSmall, small_word};
+ghost use Rattle.tagged_words.specs.Word.{small_word};
+ghost use Rattle.term_tree.specs.Small.{IsSmall};
 
 use sparc_code::{ArithOp, Cond, Instr, Source, encode};
 use std::alloc::{AllocError, Global};

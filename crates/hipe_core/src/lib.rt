@@ -17,7 +17,7 @@ pub use commands::command;
 pub use compiling::compile;
 pub use emitting::emit;
 pub use ending::{Ending, Flaw, TextFlaw};
-pub use laws::{compiled_images_are_read, compiled_runs_print_their_meaning};
+pub use laws::{compiled_images_are_read, compiled_runs_print_their_meaning, the_numbers_are};
 
 #[cfg(test)]
 mod tests;

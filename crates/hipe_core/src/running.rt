@@ -1,19 +1,19 @@
 //! A call is run on an image.
 
-ghost use Rattle.hipe_core.specs.Command.{RunsBytes, RunsFile, RunsOutcome, RunsWith, SaysOutcome, called, function_text, opened};
-ghost use Rattle.hipe_core.specs.Saying.{seen};
+ghost use Rattle.hipe_core.specs.Command.{RunsBytes, RunsFile, RunsOutcome, RunsWith, SaysLine, called, function_text, opened};
 ghost use Rattle.hipe_core.specs.Running.{ArgsRefusedAs, RefusedAs};
-ghost use Rattle.mode_switch.specs.Machine.{AreInRange};
-ghost use Rattle.native_link.specs.Image.{AreReadings};
+ghost use Rattle.faithful_image.specs.Line.{line_of};
+ghost use Rattle.mode_switch.specs.Call.{IsInRange};
+ghost use Rattle.mode_switch.specs.Machine.{ran};
 ghost use Rattle.native_link.specs.declared.limits.TheConstants.{MOST_IMAGE_BYTES};
-ghost use Rattle.std.specs.Prelude.{◌≡◌, ◌≤◌, Some, IfOk, length, string_bytes};
+ghost use Rattle.std.specs.Prelude.{◌≡◌, ◌≤◌, None, Some, IfOk, length, string_bytes};
 
 use crate::refusing::kind_flaw;
 use crate::saying::put_piece;
 use crate::{Ending, Flaw, TextFlaw};
 use asm_text::{TextRefusal, read_args};
 use hipe_base::{Files, ReadRefusal, Sink, read_file};
-use mode_switch::{Call, Limits, Machine, OpenRefusal, Outcome};
+use mode_switch::{Call, Limits, Machine, NOT_BUILT_STATUS, OpenRefusal};
 use native_link::{Image, ImageRefusal, MOST_IMAGE_BYTES, read_image};
 use std::alloc::{AllocError, Global};
 use term_tree::{Name, name_text};
@@ -36,27 +36,34 @@ fn refused(refusal: &ImageRefusal) -> Ending
 }
 
 /// Writes the line of an outcome.
-fn say_outcome<O: Sink>(alloc: Global, machine: &Machine, outcome: &Outcome, out: &mut O) -> Ending
-    ensures { SaysOutcome result outcome.now (seen (O.written out.old) (O.room out.old) (O.faults out.old)) (seen (O.written out.new) (O.room out.new) (O.faults out.new)) }
+fn say_line<O: Sink>(text: &str, status: u8, out: &mut O) -> Ending
+    ensures { SaysLine result (text.now, status) (O.seen out.old) (O.seen out.new) }
 {
-    match machine.outcome_text(alloc, outcome) {
+    if status == NOT_BUILT_STATUS {
+        Ending::NotBuilt
+    } else if put_piece(out, text.as_bytes()) {
+        Ending::Said(status)
+    } else {
+        Ending::CannotWrite
+    }
+}
+
+/// Writes the line of the run of a call.
+fn say_run<O: Sink>(alloc: Global, machine: &mut Machine, out: &mut O) -> Ending
+    requires { machine.old.outcome ≡ None }
+    ensures { SaysLine result (line_of (ran machine.old)) (O.seen out.old) (O.seen out.new) }
+{
+    let outcome = machine.run();
+    match machine.outcome_text(alloc, &outcome) {
         Err(_) => Ending::NoMemory,
-        Ok(None) => Ending::NotBuilt,
-        Ok(Some((text, status))) => {
-            if put_piece(out, text.as_bytes()) {
-                Ending::Said(status)
-            } else {
-                Ending::CannotWrite
-            }
-        }
+        Ok((text, status)) => say_line(text.as_str(), status, out),
     }
 }
 
 /// Runs a call on an image.
 fn run_call<O: Sink>(alloc: Global, image: Image, call: Call, limits: Limits, out: &mut O) -> Ending
-    requires read { AreReadings image.parts.texts image.modules }
-    requires limits { AreInRange limits }
-    ensures { RunsOutcome result image (called call.«module» call.function call.args limits) (seen (O.written out.old) (O.room out.old) (O.faults out.old)) (seen (O.written out.new) (O.room out.new) (O.faults out.new)) }
+    requires { IsInRange limits }
+    ensures { RunsOutcome result image (called call.«module» call.function call.args limits) (O.seen out.old) (O.seen out.new) }
 {
     let count = call.args.len();
     match Machine::open(alloc, image, call, limits, Vec::new(alloc)) {
@@ -65,8 +72,7 @@ fn run_call<O: Sink>(alloc: Global, image: Image, call: Call, limits: Limits, ou
         Err(OpenRefusal::Memory(_)) => Ending::NoMemory,
         Ok(machine) => {
             let mut machine = machine;
-            let outcome = machine.run();
-            say_outcome(alloc, &machine, &outcome, out)
+            say_run(alloc, &mut machine, out)
         }
     }
 }
@@ -80,8 +86,8 @@ fn run_bytes<O: Sink>(
     out: &mut O,
 ) -> Ending
     requires size { length bytes.now ≤ MOST_IMAGE_BYTES }
-    requires limits { AreInRange limits }
-    ensures { RunsBytes result bytes.now (called call.«module» call.function call.args limits) (seen (O.written out.old) (O.room out.old) (O.faults out.old)) (seen (O.written out.new) (O.room out.new) (O.faults out.new)) }
+    requires limits { IsInRange limits }
+    ensures { RunsBytes result bytes.now (called call.«module» call.function call.args limits) (O.seen out.old) (O.seen out.new) }
 {
     match read_image(alloc, bytes) {
         Err(refusal) => refused(&refusal),
@@ -98,8 +104,8 @@ fn run_file<F: Files, O: Sink>(
     files: &mut F,
     out: &mut O,
 ) -> Ending
-    requires { AreInRange limits }
-    ensures { RunsFile result file.now (called call.«module» call.function call.args limits) (opened (F.held files.old) (F.faults files.old) (F.faults files.new) (F.taken files.old) (F.taken files.new)) (seen (O.written out.old) (O.room out.old) (O.faults out.old)) (seen (O.written out.new) (O.room out.new) (O.faults out.new)) }
+    requires { IsInRange limits }
+    ensures { RunsFile result file.now (called call.«module» call.function call.args limits) (opened (F.told files.old) (F.told files.new)) (O.seen out.old) (O.seen out.new) }
 {
     match read_file(alloc, files, file, MOST_IMAGE_BYTES) {
         Err(ReadRefusal::Fault) => Ending::CannotRead,
@@ -132,8 +138,8 @@ pub fn run_args<F: Files, O: Sink>(
     files: &mut F,
     out: &mut O,
 ) -> Ending
-    requires { AreInRange limits }
-    ensures { RunsWith result file.now names args.now limits (opened (F.held files.old) (F.faults files.old) (F.faults files.new) (F.taken files.old) (F.taken files.new)) (seen (O.written out.old) (O.room out.old) (O.faults out.old)) (seen (O.written out.new) (O.room out.new) (O.faults out.new)) }
+    requires { IsInRange limits }
+    ensures { RunsWith result file.now names args.now limits (opened (F.told files.old) (F.told files.new)) (O.seen out.old) (O.seen out.new) }
 {
     match read_args(alloc, args.as_bytes()) {
         Err(refusal) => args_refused(&refusal),

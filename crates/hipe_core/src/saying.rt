@@ -1,7 +1,7 @@
 //! What standard error is told.
 
 ghost use Rattle.hipe_core.specs.Command.{IsSaid, flaw_name, flawed_line, line_of, status_of, text_flaw_name};
-ghost use Rattle.hipe_core.specs.Saying.{Says, seen};
+ghost use Rattle.hipe_core.specs.Saying.{Says};
 ghost use Rattle.std.specs.Prelude.{◌≡◌, ◌++◌, []};
 
 use crate::{Ending, Flaw, TextFlaw};
@@ -10,7 +10,7 @@ use itoa::Buffer;
 
 /// Puts a piece, and says whether the sink took all of it.
 pub fn put_piece<S: Sink>(sink: &mut S, bytes: &[u8]) -> bool
-    ensures { Says result bytes.now (seen (S.written sink.old) (S.room sink.old) (S.faults sink.old)) (seen (S.written sink.new) (S.room sink.new) (S.faults sink.new)) }
+    ensures { Says result bytes.now (S.seen sink.old) (S.seen sink.new) }
 {
     match put(sink, bytes) {
         Ok(()) => true,
@@ -20,7 +20,7 @@ pub fn put_piece<S: Sink>(sink: &mut S, bytes: &[u8]) -> bool
 
 /// Puts two pieces, one after the other.
 fn put_two<S: Sink>(sink: &mut S, a: &[u8], b: &[u8]) -> bool
-    ensures { Says result (a.now ++ b.now) (seen (S.written sink.old) (S.room sink.old) (S.faults sink.old)) (seen (S.written sink.new) (S.room sink.new) (S.faults sink.new)) }
+    ensures { Says result (a.now ++ b.now) (S.seen sink.old) (S.seen sink.new) }
 {
     if !put_piece(sink, a) {
         return false;
@@ -30,7 +30,7 @@ fn put_two<S: Sink>(sink: &mut S, a: &[u8], b: &[u8]) -> bool
 
 /// Puts three pieces, one after the other.
 fn put_three<S: Sink>(sink: &mut S, a: &[u8], b: &[u8], c: &[u8]) -> bool
-    ensures { Says result (a.now ++ b.now ++ c.now) (seen (S.written sink.old) (S.room sink.old) (S.faults sink.old)) (seen (S.written sink.new) (S.room sink.new) (S.faults sink.new)) }
+    ensures { Says result (a.now ++ b.now ++ c.now) (S.seen sink.old) (S.seen sink.new) }
 {
     if !put_two(sink, a, b) {
         return false;
@@ -40,7 +40,7 @@ fn put_three<S: Sink>(sink: &mut S, a: &[u8], b: &[u8], c: &[u8]) -> bool
 
 /// Puts five pieces, one after the other.
 fn put_five<S: Sink>(sink: &mut S, a: &[u8], b: &[u8], c: &[u8], d: &[u8], e: &[u8]) -> bool
-    ensures { Says result ((a.now ++ b.now ++ c.now) ++ (d.now ++ e.now)) (seen (S.written sink.old) (S.room sink.old) (S.faults sink.old)) (seen (S.written sink.new) (S.room sink.new) (S.faults sink.new)) }
+    ensures { Says result ((a.now ++ b.now ++ c.now) ++ (d.now ++ e.now)) (S.seen sink.old) (S.seen sink.new) }
 {
     if !put_three(sink, a, b, c) {
         return false;
@@ -50,7 +50,7 @@ fn put_five<S: Sink>(sink: &mut S, a: &[u8], b: &[u8], c: &[u8], d: &[u8], e: &[
 
 /// Puts four pieces, one after the other.
 fn put_four<S: Sink>(sink: &mut S, a: &[u8], b: &[u8], c: &[u8], d: &[u8]) -> bool
-    ensures { Says result (a.now ++ b.now ++ c.now ++ d.now) (seen (S.written sink.old) (S.room sink.old) (S.faults sink.old)) (seen (S.written sink.new) (S.room sink.new) (S.faults sink.new)) }
+    ensures { Says result (a.now ++ b.now ++ c.now ++ d.now) (S.seen sink.old) (S.seen sink.new) }
 {
     if !put_three(sink, a, b, c) {
         return false;
@@ -69,7 +69,7 @@ fn put_seven<S: Sink>(
     f: &[u8],
     g: &[u8],
 ) -> bool
-    ensures { Says result ((a.now ++ b.now ++ c.now ++ d.now) ++ (e.now ++ f.now ++ g.now)) (seen (S.written sink.old) (S.room sink.old) (S.faults sink.old)) (seen (S.written sink.new) (S.room sink.new) (S.faults sink.new)) }
+    ensures { Says result ((a.now ++ b.now ++ c.now ++ d.now) ++ (e.now ++ f.now ++ g.now)) (S.seen sink.old) (S.seen sink.new) }
 {
     if !put_four(sink, a, b, c, d) {
         return false;
@@ -108,7 +108,7 @@ fn text_flaw_name(flaw: TextFlaw) -> &'static str
 
 /// Says that the bytes of a file are no image.
 fn say_flaw<E: Sink>(err: &mut E, flaw: Flaw, at: u32, file: &str) -> bool
-    ensures { Says result (line_of (Ending.Refused flaw at) file.now []) (seen (E.written err.old) (E.room err.old) (E.faults err.old)) (seen (E.written err.new) (E.room err.new) (E.faults err.new)) }
+    ensures { Says result (line_of (Ending.Refused flaw at) file.now []) (E.seen err.old) (E.seen err.new) }
 {
     let mut buffer = Buffer::new();
     let offset = buffer.format(at);
@@ -127,7 +127,7 @@ fn say_flaw<E: Sink>(err: &mut E, flaw: Flaw, at: u32, file: &str) -> bool
 
 /// Says what is wrong in a line of a text.
 fn say_text_flaw<E: Sink>(err: &mut E, name: &str, flaw: TextFlaw, line: u32) -> bool
-    ensures { Says result (flawed_line name.now flaw line) (seen (E.written err.old) (E.room err.old) (E.faults err.old)) (seen (E.written err.new) (E.room err.new) (E.faults err.new)) }
+    ensures { Says result (flawed_line name.now flaw line) (E.seen err.old) (E.seen err.new) }
 {
     let mut buffer = Buffer::new();
     let number = buffer.format(line);
@@ -146,7 +146,7 @@ fn say_text_flaw<E: Sink>(err: &mut E, name: &str, flaw: TextFlaw, line: u32) ->
 
 /// Says that a function of so many arguments is not exported.
 fn say_not_exported<E: Sink>(err: &mut E, function: &str, count: usize) -> bool
-    ensures { Says result (line_of (Ending.NotExported count) [] function.now) (seen (E.written err.old) (E.room err.old) (E.faults err.old)) (seen (E.written err.new) (E.room err.new) (E.faults err.new)) }
+    ensures { Says result (line_of (Ending.NotExported count) [] function.now) (E.seen err.old) (E.seen err.new) }
 {
     let mut buffer = Buffer::new();
     let number = buffer.format(count);
@@ -162,7 +162,7 @@ fn say_not_exported<E: Sink>(err: &mut E, function: &str, count: usize) -> bool
 
 /// Says how a command ended, and whether all of it was said.
 fn say<E: Sink>(err: &mut E, ending: Ending, file: &str, function: &str) -> bool
-    ensures { Says result (line_of ending file.now function.now) (seen (E.written err.old) (E.room err.old) (E.faults err.old)) (seen (E.written err.new) (E.room err.new) (E.faults err.new)) }
+    ensures { Says result (line_of ending file.now function.now) (E.seen err.old) (E.seen err.new) }
 {
     match ending {
         Ending::Done => true,
@@ -201,7 +201,7 @@ fn status(ending: Ending) -> u8
 
 /// Says how a command ended, and gives its status. A fault of `err` changes none.
 pub fn finish<E: Sink>(err: &mut E, ending: Ending, file: &str, function: &str) -> u8
-    ensures { IsSaid ending file.now function.now result (seen (E.written err.old) (E.room err.old) (E.faults err.old)) (seen (E.written err.new) (E.room err.new) (E.faults err.new)) }
+    ensures { IsSaid ending file.now function.now result (E.seen err.old) (E.seen err.new) }
 {
     let _whole = say(err, ending, file, function);
     status(ending)

@@ -1,3 +1,5 @@
+ghost use Rattle.std.specs.Prelude.{◌≤◌};
+
 use super::*;
 use hipe_base::{MemFiles, MemSink};
 use std::alloc::{AllocError, Global};
@@ -52,6 +54,36 @@ impl Drop for Told {
     }
 }
 
+/// The files with this one file.
+fn files_of(alloc: Global, text: &[u8], piece: usize) -> Result<MemFiles, AllocError>
+    requires { 1 ≤ piece }
+{
+    let mut files = MemFiles::new(alloc, piece)?;
+    files.add("e.S", text)?;
+    Ok(files)
+}
+
+/// A sink with room for some output, whose write of this number fails.
+fn output(alloc: Global, fails_at: u64) -> Result<MemSink, AllocError> {
+    let mut out = MemSink::new(alloc, 100, 2000)?;
+    out.fail_at(fails_at)?;
+    Ok(out)
+}
+
+/// Does what words ask over these files.
+fn told_of(
+    alloc: Global,
+    list: &[&str],
+    files: &mut MemFiles,
+    fails_at: u64,
+) -> Result<Told, AllocError> {
+    let mut out = output(alloc, fails_at)?;
+    let mut err = MemSink::new(alloc, 100, 200)?;
+    let words = words_of(alloc, list)?;
+    let status = command(alloc, words.as_slice(), files, &mut out, &mut err);
+    Ok(Told { status, out, err })
+}
+
 /// Runs a command over a file, with a sink whose write of this number fails.
 fn run_command(
     alloc: Global,
@@ -59,14 +91,8 @@ fn run_command(
     text: &[u8],
     fails_at: u64,
 ) -> Result<Told, AllocError> {
-    let mut files = MemFiles::new(alloc, 7)?;
-    files.add("e.S", text)?;
-    let mut out = MemSink::new(alloc, 100, 2000)?;
-    out.fail_at(fails_at)?;
-    let mut err = MemSink::new(alloc, 100, 200)?;
-    let words = words_of(alloc, list)?;
-    let status = command(alloc, words.as_slice(), &mut files, &mut out, &mut err);
-    Ok(Told { status, out, err })
+    let mut files = files_of(alloc, text, 7)?;
+    told_of(alloc, list, &mut files, fails_at)
 }
 
 /// A write that no test comes to.
@@ -97,6 +123,11 @@ fn the_code_of_one(rt: HostRuntime) -> Result<(), Fail> {
     Ok(())
 }
 
+/// Whether a command ended with this status and said this on standard error alone.
+fn has_said(told: &Told, status: u8, line: &str) -> bool {
+    told.status == status && told.err.bytes() == line.as_bytes() && told.out.bytes().is_empty()
+}
+
 /// Whether a command over this file ends with this status and says this on standard error.
 fn says(
     alloc: Global,
@@ -105,8 +136,25 @@ fn says(
     status: u8,
     line: &str,
 ) -> Result<bool, AllocError> {
+    Ok(has_said(&run_command(alloc, list, text, NEVER)?, status, line))
+}
+
+/// Whether a command over this file ends with this status and writes this to standard output.
+fn prints(
+    alloc: Global,
+    list: &[&str],
+    text: &[u8],
+    status: u8,
+    line: &str,
+) -> Result<bool, AllocError> {
     let told = run_command(alloc, list, text, NEVER)?;
-    Ok(told.status == status && told.err.bytes() == line.as_bytes() && told.out.bytes().is_empty())
+    Ok(told.status == status && told.out.bytes() == line.as_bytes())
+}
+
+/// The image of a text.
+fn image_of(alloc: Global, text: &[u8]) -> Result<Vec<u8>, AllocError> {
+    let made = run_command(alloc, &["compile", "--native=all", "e.S"], text, NEVER)?;
+    Vec::from_slice(alloc, made.out.bytes())
 }
 
 #[test]
@@ -172,22 +220,27 @@ fn texts_are_refused(rt: HostRuntime) -> Result<(), Fail> {
 }
 
 #[test]
-fn deep_and_long_texts_are_refused(rt: HostRuntime) -> Result<(), Fail> {
+fn deep_texts_are_refused(rt: HostRuntime) -> Result<(), Fail> {
     let alloc = rt.alloc();
     let words = ["compile", "--native=all", "e.S"];
     let deep = vec![in alloc; b'['; 201]?;
     assert!(rt; says(alloc, &words, deep.as_slice(), 3, "hipe: e.S:1: deep\n")?);
+    Ok(())
+}
+
+/// The files with one file of a byte more than texts may have.
+fn long_file(alloc: Global) -> Result<MemFiles, AllocError> {
     let long = vec![in alloc; b' '; 4_194_305]?;
-    let mut files = MemFiles::new(alloc, 100_000)?;
-    files.add("e.S", long.as_slice())?;
-    let mut out = MemSink::new(alloc, 1, 1)?;
-    let mut err = MemSink::new(alloc, 100, 100)?;
-    let list = words_of(alloc, &words)?;
-    assert_eq!(rt;
-        command(alloc, list.as_slice(), &mut files, &mut out, &mut err),
-        10
-    );
-    assert_eq!(rt; err.bytes(), b"hipe: e.S: too long\n".as_slice());
+    files_of(alloc, long.as_slice(), 100_000)
+}
+
+#[test]
+fn long_texts_are_refused(rt: HostRuntime) -> Result<(), Fail> {
+    let alloc = rt.alloc();
+    let words = ["compile", "--native=all", "e.S"];
+    let mut files = long_file(alloc)?;
+    let told = told_of(alloc, &words, &mut files, NEVER)?;
+    assert!(rt; has_said(&told, 10, "hipe: e.S: too long\n"));
     Ok(())
 }
 
@@ -207,24 +260,19 @@ fn files_and_sinks_fail(rt: HostRuntime) -> Result<(), Fail> {
 #[test]
 fn a_plain_text_is_known_by_its_forms(rt: HostRuntime) -> Result<(), Fail> {
     let alloc = rt.alloc();
-    let words = ["compile", "--native=all", "e.S"];
     let text =
         b"%% by hand\n{'module', 'e e'} . {exports, [{'F',0}]}. {attributes, \"\"}.\n{labels, 3}.\n{function, 'F', 0, 2}. {label,1}. {func_info,{atom,'e e'},{atom,'F'},0}.\n{label,2}. {move,{integer,-007},{x,0}}. return.";
-    let made = run_command(alloc, &words, text, NEVER)?;
-    assert_eq!(rt; made.status, 0);
+    let image = image_of(alloc, text)?;
     let run = ["run", "e.S", "'e e':'\\x46'", " [ % none\n ] "];
-    let told = run_command(alloc, &run, made.out.bytes(), NEVER)?;
-    assert_eq!(rt; told.status, 0);
-    assert_eq!(rt; told.out.bytes(), b"return -7\n".as_slice());
+    assert!(rt; prints(alloc, &run, image.as_slice(), 0, "return -7\n")?);
     Ok(())
 }
 
 /// The image of `one` with other native words: the end of the image is its one native function, its
 /// code and no descriptor.
 fn with_code(alloc: Global, code: &[u32]) -> Result<Vec<u8>, AllocError> {
-    let made = run_command(alloc, &["compile", "--native=all", "e.S"], ONE, NEVER)?;
-    let bytes = made.out.bytes();
-    let mut image = Vec::from_slice(alloc, &bytes[..bytes.len().saturating_sub(84)])?;
+    let mut image = image_of(alloc, ONE)?;
+    image.truncate(image.len().saturating_sub(84));
     let count = code.len().min(1000) as u32;
     for word in [1, 0, 0, count, count] {
         image.extend_from_slice(&u32::to_be_bytes(word))?;
@@ -239,22 +287,27 @@ fn with_code(alloc: Global, code: &[u32]) -> Result<Vec<u8>, AllocError> {
 #[test]
 fn an_image_runs(rt: HostRuntime) -> Result<(), Fail> {
     let alloc = rt.alloc();
+    let image = image_of(alloc, ONE)?;
     let words = ["run", "e.S", "one:f", "[]"];
-    let one = run_command(alloc, &["compile", "--native=all", "e.S"], ONE, NEVER)?;
-    let returned = run_command(alloc, &words, one.out.bytes(), NEVER)?;
-    assert_eq!(rt; returned.status, 0);
-    assert_eq!(rt; returned.out.bytes(), b"return 1\n".as_slice());
-    let code = with_code(alloc, &[0x81C3_E008, 0x9012_22AF])?;
-    let other = run_command(alloc, &words, code.as_slice(), NEVER)?;
-    assert_eq!(rt; other.status, 0);
-    assert_eq!(rt; other.out.bytes(), b"return 42\n".as_slice());
-    let code = with_code(alloc, &[0, 0x9012_22AF])?;
-    let illegal = run_command(alloc, &words, code.as_slice(), NEVER)?;
-    assert_eq!(rt; illegal.status, 2);
-    assert_eq!(rt;
-        illegal.out.bytes(),
-        b"end machine_fault illegal 04000000\n".as_slice()
-    );
+    assert!(rt; prints(alloc, &words, image.as_slice(), 0, "return 1\n")?);
+    Ok(())
+}
+
+#[test]
+fn native_words_put_in_by_hand_run(rt: HostRuntime) -> Result<(), Fail> {
+    let alloc = rt.alloc();
+    for (code, status, line) in [
+        ([0x81C3_E008, 0x9012_22AF], 0, "return 42\n"),
+        ([0, 0x9012_22AF], 2, "end machine_fault illegal 04000000\n"),
+        ([0x1080_0000, 0x0100_0000], 2, "end steps_spent\n"),
+    ] {
+        let image = with_code(alloc, &code)?;
+        let words = ["run", "e.S", "one:f", "[]", "--reductions=10"];
+        assert!(rt;
+            prints(alloc, &words, image.as_slice(), status, line)?,
+            "{line}"
+        );
+    }
     Ok(())
 }
 
@@ -262,7 +315,7 @@ fn an_image_runs(rt: HostRuntime) -> Result<(), Fail> {
 #[test]
 fn limits_are_passed_on(rt: HostRuntime) -> Result<(), Fail> {
     let alloc = rt.alloc();
-    let one = run_command(alloc, &["compile", "--native=all", "e.S"], ONE, NEVER)?;
+    let image = image_of(alloc, ONE)?;
     for (option, status, line) in [
         ("--reductions=0", 2, "end out_of_reductions\n"),
         ("--reductions=01", 0, "return 1\n"),
@@ -271,22 +324,18 @@ fn limits_are_passed_on(rt: HostRuntime) -> Result<(), Fail> {
         ("--heap=0", 0, "return 1\n"),
     ] {
         let words = ["run", option, "e.S", "one:f", "[]"];
-        let told = run_command(alloc, &words, one.out.bytes(), NEVER)?;
-        assert_eq!(rt; told.status, status, "{option}");
-        assert_eq!(rt; told.out.bytes(), line.as_bytes(), "{option}");
+        assert!(rt;
+            prints(alloc, &words, image.as_slice(), status, line)?,
+            "{option}"
+        );
     }
-    let code = with_code(alloc, &[0x1080_0000, 0x0100_0000])?;
-    let words = ["run", "e.S", "one:f", "[]", "--reductions=10"];
-    let told = run_command(alloc, &words, code.as_slice(), NEVER)?;
-    assert_eq!(rt; told.status, 2);
-    assert_eq!(rt; told.out.bytes(), b"end steps_spent\n".as_slice());
     Ok(())
 }
 
 #[test]
-fn arguments_and_images_are_refused(rt: HostRuntime) -> Result<(), Fail> {
+fn calls_are_refused(rt: HostRuntime) -> Result<(), Fail> {
     let alloc = rt.alloc();
-    let one = run_command(alloc, &["compile", "--native=all", "e.S"], ONE, NEVER)?;
+    let image = image_of(alloc, ONE)?;
     for (entry, args, status, line) in [
         ("one:f", "[1,", 3, "hipe: args:1: syntax\n"),
         ("one:f", "", 3, "hipe: args:1: syntax\n"),
@@ -304,26 +353,38 @@ fn arguments_and_images_are_refused(rt: HostRuntime) -> Result<(), Fail> {
     ] {
         let words = ["run", "e.S", entry, args];
         assert!(rt;
-            says(alloc, &words, one.out.bytes(), status, line)?,
+            says(alloc, &words, image.as_slice(), status, line)?,
             "{entry} {args}"
         );
     }
-    let missing = ["run", "f.img", "one:f", "[]"];
+    Ok(())
+}
+
+#[test]
+fn images_are_refused(rt: HostRuntime) -> Result<(), Fail> {
+    let alloc = rt.alloc();
+    let image = image_of(alloc, EMPTY)?;
+    let missing = ["run", "f.img", "e:f", "[]"];
     assert!(rt;
         says(
             alloc,
             &missing,
-            one.out.bytes(),
+            image.as_slice(),
             7,
             "hipe: cannot read f.img\n"
         )?
     );
-    let made = run_command(alloc, &["compile", "--native=all", "e.S"], EMPTY, NEVER)?;
-    let image = made.out.bytes();
-    let none = ["run", "e.S", "e:f", "[]"];
-    assert!(rt; says(alloc, &none, image, 6, "hipe: not exported e:f/0\n")?);
     let words = ["run", "e.S", "e:f", "[]"];
-    let cut = &image[..image.len().min(270)];
+    assert!(rt;
+        says(
+            alloc,
+            &words,
+            image.as_slice(),
+            6,
+            "hipe: not exported e:f/0\n"
+        )?
+    );
+    let cut = &image.as_slice()[..image.len().min(270)];
     assert!(rt; says(alloc, &words, cut, 5, "hipe: e.S: image short at 268\n")?);
     Ok(())
 }

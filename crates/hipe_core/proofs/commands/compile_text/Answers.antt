@@ -2,7 +2,6 @@
 use Rattle.hipe_core.proofs.commands.compile_text.Goals as goal
 use Rattle.hipe_core.proofs.PlainLaw.{plain_compiles}
 use Rattle.hipe_core.proofs.CommandLaw.{writes_text}
-use Rattle.hipe_core.specs.Saying.{seen}
 
 pub write_image-requires : goal.write_image-requires
 write_image-requires g c =
@@ -13,6 +12,6 @@ pub returns-in-Ok-Some : goal.returns-in-Ok-Some
 returns-in-Ok-Some g c =
     let read = rw c.in-Ok-Some.field-0-is at c.in-Ok-Some.ensures in
     writes_text c.args.text.now c.in-Ok-Some.source c.write_image.result
-    (seen (g.O.Sink.written c.args.out.now) (g.O.Sink.room c.args.out.now) (g.O.Sink.faults c.args.out.now))
-    (seen (g.O.Sink.written c.write_image.new.out) (g.O.Sink.room c.write_image.new.out) (g.O.Sink.faults c.write_image.new.out))
+    (g.O.Sink.seen c.args.out.now)
+    (g.O.Sink.seen c.write_image.new.out)
     read c.write_image.ensures

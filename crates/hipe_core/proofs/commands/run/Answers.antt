@@ -3,7 +3,6 @@ use Rattle.asm_text.specs.Entry.{entry_of}
 use Rattle.hipe_core.proofs.commands.run.Goals as goal
 use Rattle.hipe_core.proofs.CommandLaw.{runs_out}
 use Rattle.hipe_core.specs.Command.{opened}
-use Rattle.hipe_core.specs.Saying.{seen}
 use Rattle.hipe_core.specs.declared.ending.Ending.TheVariants.{NoMemory}
 
 pub returns-in-Err : goal.returns-in-Err
@@ -11,8 +10,8 @@ returns-in-Err g c =
     record {
       ending = NoMemory;
       ends = runs_out c.args.image.now (entry_of c.args.entry.now) c.args.args.now c.args.limits
-          (opened (g.F.Files.held c.args.files.now) (g.F.Files.faults c.args.files.now) (g.F.Files.faults c.args.files.now) (g.F.Files.taken c.args.files.now) (g.F.Files.taken c.args.files.now))
-          (seen (g.O.Sink.written c.args.out.now) (g.O.Sink.room c.args.out.now) (g.O.Sink.faults c.args.out.now)) c.requires.entry;
+          (opened (g.F.Files.told c.args.files.now) (g.F.Files.told c.args.files.now))
+          (g.O.Sink.seen c.args.out.now) c.requires.entry;
       said = record { answers = c.finish.ensures.answers; whole = c.finish.ensures.whole; said = c.finish.ensures.said };
     }
 
@@ -22,7 +21,7 @@ returns-in-Err-label g c =
     record {
       ending = NoMemory;
       ends = runs_out c.args.image.now (entry_of c.args.entry.now) c.args.args.now c.args.limits
-          (opened (g.F.Files.held c.args.files.now) (g.F.Files.faults c.args.files.now) (g.F.Files.faults c.args.files.now) (g.F.Files.taken c.args.files.now) (g.F.Files.taken c.args.files.now))
-          (seen (g.O.Sink.written c.args.out.now) (g.O.Sink.room c.args.out.now) (g.O.Sink.faults c.args.out.now)) c.requires.entry;
+          (opened (g.F.Files.told c.args.files.now) (g.F.Files.told c.args.files.now))
+          (g.O.Sink.seen c.args.out.now) c.requires.entry;
       said = record { answers = told.answers; whole = told.whole; said = told.said };
     }

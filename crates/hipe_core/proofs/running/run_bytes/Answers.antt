@@ -2,12 +2,11 @@
 use Rattle.hipe_core.proofs.CommandLaw.{runs_bytes}
 use Rattle.hipe_core.proofs.running.run_bytes.Goals as goal
 use Rattle.hipe_core.specs.Command.{called}
-use Rattle.hipe_core.specs.Saying.{seen}
 
 pub returns-in-Ok : goal.returns-in-Ok
 returns-in-Ok g c =
     let call = c.args.call in
     runs_bytes c.run_call.result c.args.bytes.now (called call.«module» call.function call.args c.args.limits) c.in-Ok.image
-    (seen (g.O.Sink.written c.args.out.now) (g.O.Sink.room c.args.out.now) (g.O.Sink.faults c.args.out.now))
-    (seen (g.O.Sink.written c.run_call.new.out) (g.O.Sink.room c.run_call.new.out) (g.O.Sink.faults c.run_call.new.out))
+    (g.O.Sink.seen c.args.out.now)
+    (g.O.Sink.seen c.run_call.new.out)
     c.in-Ok.ensures.answer c.run_call.ensures

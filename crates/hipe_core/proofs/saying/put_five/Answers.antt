@@ -2,12 +2,11 @@
 use Rattle.std.proofs.Common.{◌++◌}
 use Rattle.hipe_core.proofs.saying.put_five.Goals as goal
 use Rattle.hipe_core.proofs.SayingLaws.{says_both}
-use Rattle.hipe_core.specs.Saying.{seen}
 
 pub returns : goal.returns
 returns g c =
     says_both c.put_three.result c.put_two.result (c.args.a.now ++ c.args.b.now ++ c.args.c.now) (c.args.d.now ++ c.args.e.now)
-    (seen (g.S.Sink.written c.args.sink.now) (g.S.Sink.room c.args.sink.now) (g.S.Sink.faults c.args.sink.now))
-    (seen (g.S.Sink.written c.put_three.new.sink) (g.S.Sink.room c.put_three.new.sink) (g.S.Sink.faults c.put_three.new.sink))
-    (seen (g.S.Sink.written c.put_two.new.sink) (g.S.Sink.room c.put_two.new.sink) (g.S.Sink.faults c.put_two.new.sink))
+    (g.S.Sink.seen c.args.sink.now)
+    (g.S.Sink.seen c.put_three.new.sink)
+    (g.S.Sink.seen c.put_two.new.sink)
     c.if-not-put_three.false c.put_three.ensures c.put_two.ensures

@@ -1,12 +1,11 @@
 -- The last piece follows those before it.
 use Rattle.hipe_core.proofs.saying.put_two.Goals as goal
 use Rattle.hipe_core.proofs.SayingLaws.{says_both}
-use Rattle.hipe_core.specs.Saying.{seen}
 
 pub returns : goal.returns
 returns g c =
     says_both c.put_piece.result c.put_piece-2.result c.args.a.now c.args.b.now
-    (seen (g.S.Sink.written c.args.sink.now) (g.S.Sink.room c.args.sink.now) (g.S.Sink.faults c.args.sink.now))
-    (seen (g.S.Sink.written c.put_piece.new.sink) (g.S.Sink.room c.put_piece.new.sink) (g.S.Sink.faults c.put_piece.new.sink))
-    (seen (g.S.Sink.written c.put_piece-2.new.sink) (g.S.Sink.room c.put_piece-2.new.sink) (g.S.Sink.faults c.put_piece-2.new.sink))
+    (g.S.Sink.seen c.args.sink.now)
+    (g.S.Sink.seen c.put_piece.new.sink)
+    (g.S.Sink.seen c.put_piece-2.new.sink)
     c.if-not-put_piece.false c.put_piece.ensures c.put_piece-2.ensures
