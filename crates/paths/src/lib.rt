@@ -1,0 +1,2 @@
+//! Paths through a graph of points, and the rules that end them: definitions and lemmas alone.
+#![tactic(auto)]
