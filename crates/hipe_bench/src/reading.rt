@@ -1,0 +1,46 @@
+//! Files that are read, as the compiler reads them.
+
+use anyhow::Result;
+use asm_text::read_forms;
+use hipe_base::{Files, read_file};
+use std::alloc::Global;
+
+/// The most bytes that a file may hold.
+const LIMIT: usize = 100_000_000;
+
+/// Reads a file so many times, and says how many bytes that gave in all.
+pub fn files_read<F: Files>(
+    alloc: Global,
+    files: &mut F,
+    name: &str,
+    times: u32,
+) -> Result<String> {
+    let mut count: u64 = 0;
+    for _ in 0..times {
+        let bytes = read_file(alloc, files, name, LIMIT)?;
+        count = count.saturating_add(bytes.len() as u64);
+    }
+    Ok(format!(in alloc; "{count} bytes")?)
+}
+
+/// Reads the forms of a file so many times, and says how many that gave in all.
+pub fn forms_read<F: Files>(
+    alloc: Global,
+    files: &mut F,
+    name: &str,
+    times: u32,
+) -> Result<String> {
+    let text = read_file(alloc, files, name, LIMIT)?;
+    let count = count_forms(alloc, &text, times)?;
+    let size = text.len();
+    Ok(format!(in alloc; "{count} forms in {times} readings of {size} bytes")?)
+}
+
+fn count_forms(alloc: Global, text: &[u8], times: u32) -> Result<u64> {
+    let mut count: u64 = 0;
+    for _ in 0..times {
+        let forms = read_forms(alloc, text)?;
+        count = count.saturating_add(forms.len() as u64);
+    }
+    Ok(count)
+}

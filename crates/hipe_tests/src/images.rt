@@ -1,0 +1,333 @@
+//! Images of `native_link`: bytes made by hand are read and written again, and damaged ones are refused at their fault.
+
+use native_link::{ImageRefusal, MOST_IMAGE_BYTES, image_bytes, read_image, read_parts};
+use std::alloc::{AllocError, Global};
+use std::process::Abort;
+use std::test::Fail;
+
+const ATOMS: [&str; 15] = [
+    "error",
+    "exit",
+    "throw",
+    "EXIT",
+    "true",
+    "false",
+    "badarith",
+    "badarg",
+    "function_clause",
+    "if_clause",
+    "undef",
+    "badmatch",
+    "case_clause",
+    "try_clause",
+    "e",
+];
+
+const EMPTY_MODULE: &str = "{module, e}.\n{exports, []}.\n{attributes, []}.\n{labels, 1}.\n";
+
+/// Bytes, and where each of their fields begins.
+#[derive(Drop)]
+struct Draft {
+    bytes: Vec<u8>,
+    fields: Vec<usize>,
+}
+
+impl Draft {
+    fn new(alloc: Global) -> Draft {
+        Draft {
+            bytes: Vec::new(alloc),
+            fields: Vec::new(alloc),
+        }
+    }
+
+    fn word(&mut self, number: u32) -> Result<(), AllocError> {
+        self.fields.push(self.bytes.len())?;
+        self.bytes.extend_from_slice(&number.to_be_bytes())
+    }
+
+    fn words(&mut self, numbers: &[u32]) -> Result<(), AllocError> {
+        for number in numbers {
+            self.word(*number)?;
+        }
+        Ok(())
+    }
+
+    fn text(&mut self, text: &str) -> Result<(), AllocError> {
+        let len = u32::try_from(text.len()).unwrap_or(0);
+        self.word(len)?;
+        self.fields.push(self.bytes.len())?;
+        self.bytes.extend_from_slice(text.as_bytes())?;
+        for _ in 0..(4 - text.len() % 4) % 4 {
+            self.bytes.push(0)?;
+        }
+        Ok(())
+    }
+}
+
+fn head(draft: &mut Draft) -> Result<(), AllocError> {
+    draft.words(&[0x48495045, 1])
+}
+
+fn atoms(draft: &mut Draft) -> Result<(), AllocError> {
+    draft.word(15)?;
+    for atom in &ATOMS {
+        draft.text(atom)?;
+    }
+    Ok(())
+}
+
+/// The image of one module without functions.
+fn empty_image(alloc: Global) -> Result<Draft, AllocError> {
+    let mut draft = Draft::new(alloc);
+    head(&mut draft)?;
+    draft.word(1)?;
+    draft.text(EMPTY_MODULE)?;
+    atoms(&mut draft)?;
+    draft.words(&[0, 0, 0, 0, 0])?;
+    Ok(draft)
+}
+
+/// An image with two texts, literals, roots, native functions and descriptors.
+fn full_image(alloc: Global) -> Result<Draft, AllocError> {
+    let mut draft = Draft::new(alloc);
+    head(&mut draft)?;
+    draft.word(2)?;
+    draft.text("abcde")?;
+    draft.text("")?;
+    draft.word(2)?;
+    draft.text("a")?;
+    draft.text("b")?;
+    draft.words(&[2, 7, 8])?;
+    draft.words(&[1, 9])?;
+    draft.words(&[2, 3, 0, 1, 5, 1, 2])?;
+    draft.words(&[3, 10, 11, 12])?;
+    draft.words(&[2, 100, 3, 4, 33, 1, 64, 0x80000002, 1])?;
+    draft.words(&[104, 5, 6, 2, 0, 0, 2])?;
+    Ok(draft)
+}
+
+/// These bytes with another word at a place.
+fn with_word(alloc: Global, bytes: &[u8], at: usize, number: u32) -> Result<Vec<u8>, AllocError> {
+    let mut other = Vec::from_slice(alloc, bytes)?;
+    for (i, byte) in number.to_be_bytes().iter().enumerate() {
+        if let Some(place) = other.get_mut(at.saturating_add(i)) {
+            *place = *byte;
+        }
+    }
+    Ok(other)
+}
+
+/// What reading the parts of these bytes says.
+fn said(alloc: Global, bytes: &[u8]) -> Result<String, AllocError> {
+    if bytes.len() > MOST_IMAGE_BYTES {
+        return String::from_str(alloc, "too long");
+    }
+    match read_parts(alloc, bytes) {
+        Ok(_) => String::from_str(alloc, "Ok"),
+        Err(refusal) => format!(in alloc; "{refusal:?}"),
+    }
+}
+
+/// What reading an image of these bytes says.
+fn image_said(alloc: Global, bytes: &[u8]) -> Result<String, AllocError> {
+    if bytes.len() > MOST_IMAGE_BYTES {
+        return String::from_str(alloc, "too long");
+    }
+    match read_image(alloc, bytes) {
+        Ok(_) => String::from_str(alloc, "Ok"),
+        Err(refusal) => format!(in alloc; "{refusal:?}"),
+    }
+}
+
+/// The parts of these bytes, written again.
+fn again(alloc: Global, bytes: &[u8]) -> Result<Vec<u8>, ImageRefusal> {
+    if bytes.len() > MOST_IMAGE_BYTES {
+        return Ok(Vec::new(alloc));
+    }
+    let parts = read_parts(alloc, bytes)?;
+    let written = image_bytes(alloc, &parts)?;
+    Ok(written)
+}
+
+/// How many modules the image has, and whether it knows native code or a descriptor at 0.
+fn asked(alloc: Global, bytes: &[u8]) -> Result<(usize, bool), ImageRefusal> {
+    if bytes.len() > MOST_IMAGE_BYTES {
+        return Ok((0, true));
+    }
+    let image = read_image(alloc, bytes)?;
+    let known = image.native_entry(0).is_some() || image.find(0).is_some();
+    Ok((image.modules().len(), known))
+}
+
+/// The live slots of all descriptors.
+fn live_slots(alloc: Global, bytes: &[u8]) -> Result<Vec<u32>, ImageRefusal> {
+    let mut slots = Vec::new(alloc);
+    if bytes.len() > MOST_IMAGE_BYTES {
+        return Ok(slots);
+    }
+    let parts = read_parts(alloc, bytes)?;
+    for descriptor in parts.descriptors.as_slice() {
+        for slot in 0..40 {
+            if descriptor.is_live(slot) {
+                slots.push(slot)?;
+            }
+        }
+    }
+    Ok(slots)
+}
+
+/// Fails where two texts differ.
+fn same(rt: &impl Abort, found: &str, wanted: &str) {
+    assert_eq!(rt; found, wanted);
+}
+
+#[test]
+fn empty_module(rt: HostRuntime) -> Result<(), Fail> {
+    let draft = empty_image(rt.alloc())?;
+    assert_eq!(rt; draft.bytes.len(), 284);
+    let written = again(rt.alloc(), &draft.bytes)?;
+    assert_eq!(rt; written.as_slice(), draft.bytes.as_slice());
+    let (modules, known) = asked(rt.alloc(), &draft.bytes)?;
+    assert!(rt; modules == 1 && !known);
+    Ok(())
+}
+
+#[test]
+fn full_parts(rt: HostRuntime) -> Result<(), Fail> {
+    let draft = full_image(rt.alloc())?;
+    let written = again(rt.alloc(), &draft.bytes)?;
+    assert_eq!(rt; written.as_slice(), draft.bytes.as_slice());
+    Ok(())
+}
+
+#[test]
+fn parts_of_no_image(rt: HostRuntime) -> Result<(), Fail> {
+    let draft = full_image(rt.alloc())?;
+    let slots = live_slots(rt.alloc(), &draft.bytes)?;
+    assert_eq!(rt; slots.as_slice(), [1, 31, 32, 1].as_slice());
+    let unbuilt = image_said(rt.alloc(), &draft.bytes)?;
+    same(&rt, unbuilt.as_str(), "NotBuilt");
+    Ok(())
+}
+
+/// The place where the last field begins that begins at a length or before it.
+fn field_at(fields: &[usize], len: usize) -> usize {
+    let mut field = 0;
+    for start in fields {
+        if *start <= len {
+            field = *start;
+        }
+    }
+    field
+}
+
+#[test]
+fn cut_anywhere(rt: HostRuntime) -> Result<(), Fail> {
+    let draft = empty_image(rt.alloc())?;
+    for len in 0..draft.bytes.len() {
+        let field = field_at(draft.fields.as_slice(), len);
+        let short = said(rt.alloc(), &draft.bytes[..len])?;
+        let wanted = format!(in rt.alloc(); "Short {{ offset: {field} }}")?;
+        same(&rt, short.as_str(), wanted.as_str());
+    }
+    Ok(())
+}
+
+#[test]
+fn cut_in_the_last_function(rt: HostRuntime) -> Result<(), Fail> {
+    let draft = empty_image(rt.alloc())?;
+    let short = said(rt.alloc(), draft.bytes.get(..270).unwrap_or(&[]))?;
+    same(&rt, short.as_str(), "Short { offset: 268 }");
+    Ok(())
+}
+
+#[test]
+fn one_byte_more(rt: HostRuntime) -> Result<(), Fail> {
+    let mut draft = empty_image(rt.alloc())?;
+    draft.bytes.push(0)?;
+    let long = said(rt.alloc(), &draft.bytes)?;
+    same(&rt, long.as_str(), "Long { offset: 284 }");
+    Ok(())
+}
+
+/// The field whose word is changed, how many bytes into it, the word, and the fault with its field.
+const DAMAGE: [(usize, usize, u32, &str, usize); 36] = [
+    (0, 0, 0x48495046, "Magic", 0),
+    (1, 0, 3, "Version", 1),
+    (2, 0, 0, "Count", 2),
+    (2, 0, 16_385, "Count", 2),
+    (3, 0, 4_194_305, "Count", 3),
+    (5, 0, 4_194_300, "Count", 5),
+    (7, 0, 33_554_433, "Count", 7),
+    (12, 0, 33_554_433, "Count", 12),
+    (17, 0, 262_145, "Count", 17),
+    (24, 0, 16_777_217, "Count", 24),
+    (28, 0, 1_048_577, "Count", 28),
+    (8, 0, 4_000, "Short", 9),
+    (4, 4, 0x65000001, "Value", 4),
+    (9, 0, 0x61000100, "Value", 9),
+    (9, 0, 0xff000000, "Value", 9),
+    (11, 0, 0x61000000, "Value", 11),
+    (19, 0, 1, "Value", 19),
+    (20, 0, 0, "Value", 20),
+    (21, 0, 3, "Order", 21),
+    (21, 0, 2, "Order", 21),
+    (22, 0, 0, "Value", 22),
+    (22, 0, 2, "Value", 22),
+    (23, 0, 0, "Value", 23),
+    (24, 0, 2, "Value", 24),
+    (32, 0, 0, "Value", 32),
+    (32, 0, 514, "Value", 32),
+    (33, 0, 3, "Value", 33),
+    (33, 0, 0, "Value", 34),
+    (34, 0, 0, "Value", 34),
+    (35, 0, 0x80000003, "Value", 35),
+    (36, 0, 2, "Value", 36),
+    (37, 0, 100, "Order", 37),
+    (40, 0, 1, "Value", 43),
+    (41, 0, 2, "Value", 42),
+    (42, 0, 64, "Value", 42),
+    (43, 0, 4, "Value", 43),
+];
+
+/// Where a field begins.
+fn start_of(draft: &Draft, field: usize) -> usize {
+    draft.fields.get(field).copied().unwrap_or(0)
+}
+
+/// What reading says of the image with another word at some bytes into a field.
+fn said_with(alloc: Global, draft: &Draft, at: usize, number: u32) -> Result<String, AllocError> {
+    let bytes = with_word(alloc, &draft.bytes, at, number)?;
+    said(alloc, &bytes)
+}
+
+/// A fault, with the place of its field but for the first two.
+fn fault_at(alloc: Global, draft: &Draft, fault: &str, field: usize) -> Result<String, AllocError> {
+    if field < 2 {
+        return String::from_str(alloc, fault);
+    }
+    let offset = start_of(draft, field);
+    format!(in alloc; "{fault} {{ offset: {offset} }}")
+}
+
+#[test]
+fn damaged_fields(rt: HostRuntime) -> Result<(), Fail> {
+    let draft = full_image(rt.alloc())?;
+    for row in DAMAGE.iter() {
+        let (field, into, number, fault, at) = *row;
+        let place = start_of(&draft, field).saturating_add(into);
+        let refusal = said_with(rt.alloc(), &draft, place, number)?;
+        let wanted = fault_at(rt.alloc(), &draft, fault, at)?;
+        same(&rt, refusal.as_str(), wanted.as_str());
+    }
+    Ok(())
+}
+
+#[test]
+fn missing_atom(rt: HostRuntime) -> Result<(), Fail> {
+    let draft = empty_image(rt.alloc())?;
+    let bytes = with_word(rt.alloc(), &draft.bytes, start_of(&draft, 35), 0x66000000)?;
+    let refusal = image_said(rt.alloc(), &bytes)?;
+    same(&rt, refusal.as_str(), "Value { offset: 76 }");
+    Ok(())
+}
