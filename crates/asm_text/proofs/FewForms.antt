@@ -4,58 +4,35 @@ use denote.Hole.Carrier.{roll}
 use Rattle.term_tree.specs.declared.term.Term as t
 use Rattle.term_tree.specs.declared.term.Term.{Term, out-Term, roll-Term, out-roll-Term}
 use Rattle.term_tree.specs.declared.term.Term.TheOpen.{Term-F}
-use Rattle.text_tokens.specs.declared.token.Token.{Token}
 use Rattle.text_tokens.specs.declared.token.Token.TheVariants as k
 use Rattle.text_tokens.specs.declared.token.Piece.{Piece}
 use Rattle.text_tokens.specs.declared.token.Piece.TheVariants as p
-use Rattle.text_tokens.specs.declared.token.Reason.{Reason}
 use Rattle.text_forms.specs.declared.form.Form.{Form}
 use Rattle.text_forms.specs.Spelling.{with_layer}
 use Rattle.text_tokens.specs.Pieces.{piece}
-use Rattle.text_tokens.specs.Tokens.{Tokens, Stop, Bad, More, Lined, at, lined, tokens_after, line_after}
+use Rattle.text_tokens.specs.Tokens.{Stop, Bad, More, Lined, at, lined, tokens_after, line_after}
 use Rattle.asm_text.specs.Reading.{reading}
 use Rattle.text_forms.specs.Spelling.{Phrase, One, Strings, Terms, Pairs, Spells, integer, atom, wide, float, strings, empty_tuple, tuple, empty_list, list, tail, empty_map, map as map_of, one_string, more_strings, one_term, more_terms, one_pair, more_pairs, AreForms, no_forms, more_forms, first_line}
 use Rattle.asm_text.proofs.ReadingLaws.{reading-spelled}
 
 -- ---- tokens and bytes
 
--- the tokens are at least so many
-Many : ℕ → Tokens → Type 0
-Many n all = (ts : List Lined) (line : ℕ) → all ≡ lined ts (Stop line) → length ts ≤ n
-
-many_more : (m n : ℕ) (all : Tokens) → m ≤ n → Many m all → Many n all
-unfolding Many
-many_more m n all le many ts line e = omega (arith, le, many ts line e)
-
-many_stop : (n line : ℕ) → Many n (Stop line)
-unfolding Many
-many_stop n line [] at e = omega arith
-many_stop n line (a ∷ ts) at e = absurd cc
-
-many_bad : (n line : ℕ) (reason : Reason) → Many n (Bad line reason)
-unfolding Many
-many_bad n line reason [] at e = omega arith
-many_bad n line reason (a ∷ ts) at e = absurd cc
-
-many_token : (n line : ℕ) (token : Token) (rest : Tokens) → Many n rest → Many (n + 1) (More line token rest)
-unfolding Many
-many_token n line token rest many [] at e = omega arith
-many_token n line token rest many (a ∷ ts) at e = let same : rest ≡ lined ts (Stop at) = cc in omega (arith, many ts at same)
-
--- from one byte on, where this is so of the bytes behind it
-many_byte : (b : ℕ) (bs : List ℕ) (skip line : ℕ) → ((k l m : ℕ) → Many (length bs) (tokens_after k l m bs)) → (skips : Bool) (q : Piece) →
-    Many (length bs + 1) (if skips then tokens_after (skip - 1) line (line_after line b) bs
-    else elim q [ p.Blank size ↦ tokens_after (size - 1) line (line_after line b) bs | p.Whole token size ↦ More line token (tokens_after (size - 1) line (line_after line b) bs) | p.Bad reason ↦ Bad line reason ])
-many_byte b bs skip line many true q = many_more (length bs) (length bs + 1) (tokens_after (skip - 1) line (line_after line b) bs) (omega arith) (many (skip - 1) line (line_after line b))
-many_byte b bs skip line many false (p.Blank size) = many_more (length bs) (length bs + 1) (tokens_after (size - 1) line (line_after line b) bs) (omega arith) (many (size - 1) line (line_after line b))
-many_byte b bs skip line many false (p.Bad reason) = many_bad (length bs + 1) line reason
-many_byte b bs skip line many false (p.Whole token size) = many_token (length bs) line token (tokens_after (size - 1) line (line_after line b) bs) (many (size - 1) line (line_after line b))
-
-many_tokens : (bs : List ℕ) (skip before line : ℕ) → Many (length bs) (tokens_after skip before line bs)
-many_tokens [] skip before line = many_stop 0 before
-many_tokens (b ∷ bs) skip before line =
-    many_more (length bs + 1) (length (b ∷ bs)) (tokens_after skip before line (b ∷ bs)) (omega arith)
-    (many_byte b bs skip line (λ k l m. many_tokens bs k l m) (nat_lt 0 skip) (piece (b ∷ bs)))
+-- a piece has a byte at least
+many_tokens : (bs : List ℕ) (skip before line end : ℕ) (ts : List Lined) → tokens_after skip before line bs ≡ lined ts (Stop end) → length ts ≤ length bs
+many_tokens [] skip before line end [] e = omega arith
+many_tokens [] skip before line end (a ∷ ts) e = absurd cc
+many_tokens (b ∷ bs) skip before line end ts e = go (nat_lt 0 skip) (piece (b ∷ bs)) ts (λ k us h. many_tokens bs k line (line_after line b) end us h) e
+  where
+    go : (skips : Bool) (q : Piece) (ts : List Lined) → ((k : ℕ) (us : List Lined) → tokens_after k line (line_after line b) bs ≡ lined us (Stop end) → length us ≤ length bs) →
+        (if skips then tokens_after (skip - 1) line (line_after line b) bs
+        else elim q [ p.Blank size ↦ tokens_after (size - 1) line (line_after line b) bs | p.Whole token size ↦ More line token (tokens_after (size - 1) line (line_after line b) bs) | p.Bad reason ↦ Bad line reason ]) ≡ lined ts (Stop end) →
+        length ts ≤ length (b ∷ bs)
+    go true q ts ih e = omega (arith, ih (skip - 1) ts e)
+    go false (p.Blank size) ts ih e = omega (arith, ih (size - 1) ts e)
+    go false (p.Bad reason) [] ih e = omega arith
+    go false (p.Bad reason) (a ∷ ts) ih e = absurd cc
+    go false (p.Whole token size) [] ih e = omega arith
+    go false (p.Whole token size) (a ∷ ts) ih e = let same : tokens_after (size - 1) line (line_after line b) bs ≡ lined ts (Stop end) = cc in omega (arith, ih (size - 1) ts same)
 
 -- ---- terms and tokens
 
@@ -148,10 +125,9 @@ forms_take _ _ (more_forms forms ts term us dot s r) =
 
 -- a text has at least as many bytes as its forms have tokens
 pub forms_weigh : (text : List ℕ) (forms : List Form) → reading text ≡ Ok forms → weight forms ≤ length text
-unfolding Many
 forms_weigh text forms e =
     let s = reading-spelled text forms e in
-    let few : length s.0 ≤ length text = many_tokens text 0 1 1 s.0 s.1 s.2 in
+    let few : length s.0 ≤ length text = many_tokens text 0 1 1 s.1 s.0 s.2 in
     omega (arith, few, forms_take forms s.0 s.3.0)
 
 some_weight : (forms : List Form) → length forms ≤ weight forms

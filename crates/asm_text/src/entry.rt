@@ -2,15 +2,13 @@ ghost use Rattle.std.specs.Prelude.{◌≡◌, ◌+◌, ◌<◌, ◌≤◌, ◌�
 ghost use Rattle.std.specs.Option.{option_map};
 ghost use Rattle.term_tree.specs.Name.{characters_in};
 ghost use Rattle.text_tokens.specs.Character as text;
-ghost use Rattle.text_tokens.specs.Pieces as pieces;
-ghost use Rattle.asm_text.specs.Entry.{atom_piece, atom_at, function_after, whole_atom, entry_of};
+ghost use Rattle.text_tokens.specs.Class.{is_in};
+ghost use Rattle.asm_text.specs.Entry as entry;
+ghost use Rattle.asm_text.specs.Entry.{atom_piece, atom_at, sized, function_after, whole_atom, entry_of};
 
 use std::alloc::{AllocError, Global};
-use term_tree::Name;
-use text_tokens::{Class, Piece, Token, passes, piece, quoted_character, run};
-
-/// The most characters of an atom (Erlang reference manual, Data Types, Atom).
-const MOST_CHARACTERS: usize = 255;
+use term_tree::{MOST_CHARACTERS, Name};
+use text_tokens::{Class, Piece, Token, bare_atom, passes, quoted_character, quoted_piece, run};
 
 /// How many characters stand between single quotes, by the bytes after the opening one, and how
 /// many bytes are left after the closing one.
@@ -25,7 +23,7 @@ fn characters_between(bytes: &[u8]) -> Option<(usize, usize)>
     while let Some((first, more)) = rest.split_first() {
         if skip > 0 {
             skip -= 1;
-        } else if *first == 39 {
+        } else if *first == b'\'' {
             return Some((count, more.len()));
         } else {
             let spelled = quoted_character(rest)?;
@@ -38,9 +36,8 @@ fn characters_between(bytes: &[u8]) -> Option<(usize, usize)>
 }
 
 /// The size of a quoted atom, by the bytes after its opening quote.
-#[tactic(auto, using(crate::proofs::AtomSizes::quoted_steps))]
 fn quoted_size(bytes: &[u8]) -> Option<usize>
-    ensures { result ≡ option_map (λ a. a.1) (atom_piece (pieces.quoted 39 (length bytes.now + 1) (text.between_quotes 39 0 [] bytes.now))) }
+    ensures { result ≡ entry.quoted_size (length bytes.now + 1) (option_map (λ inside. (characters_in inside.0, inside.1)) (text.between_quotes 39 0 [] bytes.now)) }
 {
     let (count, left) = characters_between(bytes)?;
     if count > MOST_CHARACTERS {
@@ -51,9 +48,8 @@ fn quoted_size(bytes: &[u8]) -> Option<usize>
 }
 
 /// The size of an atom without quotes. Its characters are of one byte each.
-#[tactic(auto, using(crate::proofs::AtomSizes::bare_steps))]
 fn bare_size(bytes: &[u8]) -> Option<usize>
-    ensures { result ≡ option_map (λ a. a.1) (atom_piece (pieces.bare_atom bytes.now)) }
+    ensures { result ≡ let count = text.run (is_in Class.Name) bytes.now in sized count count }
 {
     let count = run(Class::Name, bytes);
     if count > MOST_CHARACTERS {
@@ -64,7 +60,7 @@ fn bare_size(bytes: &[u8]) -> Option<usize>
 }
 
 /// The size of the atom at the front of some bytes.
-#[tactic(auto, using(crate::proofs::AtomSizes::piece_steps))]
+#[tactic(auto, using(crate::proofs::AtomSizes::size_steps))]
 fn atom_size(bytes: &[u8]) -> Option<usize>
     ensures { result ≡ option_map (λ a. a.1) (atom_at bytes.now) }
 {
@@ -73,7 +69,7 @@ fn atom_size(bytes: &[u8]) -> Option<usize>
     };
     if passes(Class::Lower, *first) {
         bare_size(bytes)
-    } else if *first == 39 {
+    } else if *first == b'\'' {
         quoted_size(rest)
     } else {
         None
@@ -86,7 +82,7 @@ fn after_colon(word: &[u8], size: usize) -> Option<&[u8]>
     ensures { MatchOption result (function_after (drop size word.now) ≡ None) (λ rest. drop size word.now ≡ 58 ∷ rest.now) }
 {
     let (first, rest) = word.get(size..)?.split_first()?;
-    if *first == 58 { Some(rest) } else { None }
+    if *first == b':' { Some(rest) } else { None }
 }
 
 /// Whether a word is the entry of a call. It takes no memory.
@@ -106,16 +102,31 @@ pub fn is_entry(word: &[u8]) -> bool
     }
 }
 
+fn atom_of(piece: Piece) -> Option<(Name, usize)>
+    ensures { result ≡ atom_piece piece }
+{
+    match piece {
+        Piece::Whole(token, size) => match token {
+            Token::Atom(name) => Some((name, size)),
+            _ => None,
+        },
+        _ => None,
+    }
+}
+
 /// The atom at the front of some bytes, with its size.
 fn atom_in(alloc: Global, bytes: &[u8]) -> Result<Option<(Name, usize)>, AllocError>
     ensures { IfOk result (λ found. found ≡ atom_at bytes.now) }
 {
-    match piece(alloc, bytes)? {
-        Piece::Whole(token, size) => match token {
-            Token::Atom(name) => Ok(Some((name, size))),
-            _ => Ok(None),
-        },
-        _ => Ok(None),
+    let Some((first, rest)) = bytes.split_first() else {
+        return Ok(None);
+    };
+    if passes(Class::Lower, *first) {
+        Ok(atom_of(bare_atom(alloc, bytes)?))
+    } else if *first == b'\'' {
+        Ok(atom_of(quoted_piece(alloc, b'\'', rest)?))
+    } else {
+        Ok(None)
     }
 }
 

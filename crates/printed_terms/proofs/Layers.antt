@@ -1,6 +1,8 @@
 -- The depth of a term and the names in it, by what the term is made of.
-use Rattle.std.proofs.Common.{◌≡◌, ℕ, ◌+◌, max, Bool, true, false, List, [], ◌∷◌, map, Some, None, refl, ap, ◌∙◌, ◌&&◌}
+use Rattle.std.proofs.Common.{◌≡◌, ℕ, ◌+◌, max, Bool, false, List, map, Some, None, ap, ◌∙◌, ◌&&◌}
 use Rattle.std.specs.List.{list_all}
+use Rattle.std.proofs.Math.Bool.{and-true}
+use Rattle.std.proofs.lemmas.List.Folds.{list_all-map}
 use Rattle.term_tree.specs.declared.term.Term as t
 use Rattle.term_tree.specs.declared.term.Term.{Term, fold-roll-Term, roll-Term, out-Term, out-roll-Term}
 use Rattle.term_tree.specs.declared.term.Term.TheOpen.{Term-F}
@@ -23,29 +25,21 @@ pub depth-Tuple : (all : List Term) → depth_of (t.Tuple all) ≡ 1 + deepest (
 unfolding roll-Term roll
 depth-Tuple all = fold-roll-Term ℕ layer_depth (Term-F.Tuple all)
 
-all_named : (all : List Term) → list_all (λ b. b) (map has_names all) ≡ list_all has_names all
-all_named [] = refl
-all_named (x ∷ xs) = ap (λ b. has_names x && b) (all_named xs)
-
-and_true : (b : Bool) → b && true ≡ b
-and_true true = refl
-and_true false = refl
-
 pub names-Atom : (a : List ℕ) → has_names (t.Atom a) ≡ is_name a
 unfolding roll-Term roll
 names-Atom a = fold-roll-Term Bool layer_names (Term-F.Atom a)
 
 pub names-proper : (all : List Term) → has_names (t.List all None) ≡ list_all has_names all
 unfolding roll-Term roll
-names-proper all = fold-roll-Term Bool layer_names (Term-F.List all None) ∙ and_true (list_all (λ b. b) (map has_names all)) ∙ all_named all
+names-proper all = fold-roll-Term Bool layer_names (Term-F.List all None) ∙ and-true (list_all (λ b. b) (map has_names all)) ∙ list_all-map (λ b. b) has_names all
 
 pub names-improper : (all : List Term) (e : Term) → has_names (t.List all (Some e)) ≡ list_all has_names all && has_names e
 unfolding roll-Term roll
-names-improper all e = fold-roll-Term Bool layer_names (Term-F.List all (Some e)) ∙ ap (λ b. b && has_names e) (all_named all)
+names-improper all e = fold-roll-Term Bool layer_names (Term-F.List all (Some e)) ∙ ap (λ b. b && has_names e) (list_all-map (λ b. b) has_names all)
 
 pub names-Tuple : (all : List Term) → has_names (t.Tuple all) ≡ list_all has_names all
 unfolding roll-Term roll
-names-Tuple all = fold-roll-Term Bool layer_names (Term-F.Tuple all) ∙ all_named all
+names-Tuple all = fold-roll-Term Bool layer_names (Term-F.Tuple all) ∙ list_all-map (λ b. b) has_names all
 
 -- a tail that is no list stays the end
 KeepsTail : Term → Type 0

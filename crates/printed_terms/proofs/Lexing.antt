@@ -1,6 +1,7 @@
 -- The tokens of a text whose first bytes are one token with no line feed.
-use Rattle.std.proofs.Common.{◌≡◌, ℕ, ◌+◌, ◌-◌, min, Bool, true, false, List, [], ◌∷◌, ◌++◌, length, refl, ap, ◌∙◌, arith, ◌&&◌, if◌then◌else◌, ◌==◌}
+use Rattle.std.proofs.Common.{◌≡◌, ℕ, ◌+◌, ◌-◌, min, Bool, true, false, List, [], ◌∷◌, ◌++◌, length, refl, ap, ◌∙◌, arith, if◌then◌else◌, ◌==◌}
 use Rattle.std.specs.List.{list_all}
+use Rattle.std.specs.Cmp.Derive.{both_true}
 use Rattle.term_tree.proofs.TermLaws.{both_hold}
 use Rattle.text_tokens.specs.declared.token.Token.{Token}
 use Rattle.text_tokens.specs.declared.token.Token.TheVariants as k
@@ -9,10 +10,6 @@ use Rattle.text_tokens.specs.Character.{is, begins, run}
 use Rattle.text_tokens.specs.Pieces.{piece, mark, is_digit, is_name_byte, is_no_line_feed, begins_fraction}
 use Rattle.text_tokens.specs.Tokens.{More, tokens, tokens_after, line_after, last_line}
 use Rattle.text_tokens.proofs.Fronts.{tokens-skip, tokens-whole}
-
-pub both_true : (a b : Bool) → a ≡ true → b ≡ true → a && b ≡ true
-both_true true b h e = e
-both_true false b h e = absurd (cc)
 
 stays : (feed : Bool) (line : ℕ) → (if feed then false else true) ≡ true → (if feed then min (line + 1) last_line else line) ≡ line
 stays true line h = absurd (cc)
@@ -42,6 +39,11 @@ one_token b cs rest token e h =
     ∙ ap (λ n. More 1 token (tokens_after n 1 1 (cs ++ rest))) one_less
     ∙ ap (More 1 token) (skipped cs rest both.1)
 
+-- what passes one test passes another
+pub all_imply : (p q : ℕ → Bool) → ((b : ℕ) → p b ≡ true → q b ≡ true) → (bs : List ℕ) → list_all p bs ≡ true → list_all q bs ≡ true
+all_imply p q h [] e = refl
+all_imply p q h (b ∷ bs) e = let both = both_hold (p b) (list_all p bs) e in both_true (h b both.0) (all_imply p q h bs both.1)
+
 -- the front that passes a test, before bytes that do not
 pub run-front : (p : ℕ → Bool) (ds rest : List ℕ) → list_all p ds ≡ true → begins p rest ≡ false → run p (ds ++ rest) ≡ length ds
 run-front p [] [] h e = refl
@@ -59,45 +61,41 @@ pub record Stops (rest : List ℕ) : Type 0 where
   pub fraction : begins_fraction rest ≡ false
   pub based : begins (is 35) rest ≡ false
 
-pub stops_comma : (rest : List ℕ) → Stops (44 ∷ rest)
-stops_comma rest = record { name = refl; digit = refl; fraction = refl; based = refl }
+-- a mark of one byte, before which a number or an atom stops
+pub record IsMark (b : ℕ) (token : Token) : Type 0 where
+  pub stops : (rest : List ℕ) → Stops (b ∷ rest)
+  pub reads : (rest : List ℕ) → tokens (b ∷ rest) ≡ More 1 token (tokens rest)
 
-pub stops_bar : (rest : List ℕ) → Stops (124 ∷ rest)
-stops_bar rest = record { name = refl; digit = refl; fraction = refl; based = refl }
+mark_is : (b : ℕ) (token : Token) → ((rest : List ℕ) → Stops (b ∷ rest)) → is_no_line_feed b ≡ true → ((rest : List ℕ) → piece (b ∷ rest) ≡ Whole token 1) → IsMark b token
+mark_is b token stops line is = record { stops = stops; reads = (λ rest. one_token b [] rest token (is rest) (both_true line refl)) }
 
-pub stops_bracket : (rest : List ℕ) → Stops (93 ∷ rest)
-stops_bracket rest = record { name = refl; digit = refl; fraction = refl; based = refl }
+pub comma : IsMark 44 k.Comma
+unfolding piece mark
+comma = mark_is 44 k.Comma (λ rest. record { name = refl; digit = refl; fraction = refl; based = refl }) refl (λ rest. refl)
 
-pub stops_brace : (rest : List ℕ) → Stops (125 ∷ rest)
-stops_brace rest = record { name = refl; digit = refl; fraction = refl; based = refl }
+pub bar : IsMark 124 k.Bar
+unfolding piece mark
+bar = mark_is 124 k.Bar (λ rest. record { name = refl; digit = refl; fraction = refl; based = refl }) refl (λ rest. refl)
 
+pub open_list : IsMark 91 k.OpenList
+unfolding piece mark
+open_list = mark_is 91 k.OpenList (λ rest. record { name = refl; digit = refl; fraction = refl; based = refl }) refl (λ rest. refl)
+
+pub close_list : IsMark 93 k.CloseBracket
+unfolding piece mark
+close_list = mark_is 93 k.CloseBracket (λ rest. record { name = refl; digit = refl; fraction = refl; based = refl }) refl (λ rest. refl)
+
+pub open_tuple : IsMark 123 k.OpenTuple
+unfolding piece mark
+open_tuple = mark_is 123 k.OpenTuple (λ rest. record { name = refl; digit = refl; fraction = refl; based = refl }) refl (λ rest. refl)
+
+pub close_tuple : IsMark 125 k.CloseBrace
+unfolding piece mark
+close_tuple = mark_is 125 k.CloseBrace (λ rest. record { name = refl; digit = refl; fraction = refl; based = refl }) refl (λ rest. refl)
+
+-- the dot of the last form
 pub stops_dot : Stops (46 ∷ [])
 stops_dot = record { name = refl; digit = refl; fraction = refl; based = refl }
-
--- the marks
-pub comma_token : (rest : List ℕ) → tokens (44 ∷ rest) ≡ More 1 k.Comma (tokens rest)
-unfolding piece mark
-comma_token rest = one_token 44 [] rest k.Comma refl refl
-
-pub bar_token : (rest : List ℕ) → tokens (124 ∷ rest) ≡ More 1 k.Bar (tokens rest)
-unfolding piece mark
-bar_token rest = one_token 124 [] rest k.Bar refl refl
-
-pub list_token : (rest : List ℕ) → tokens (91 ∷ rest) ≡ More 1 k.OpenList (tokens rest)
-unfolding piece mark
-list_token rest = one_token 91 [] rest k.OpenList refl refl
-
-pub bracket_token : (rest : List ℕ) → tokens (93 ∷ rest) ≡ More 1 k.CloseBracket (tokens rest)
-unfolding piece mark
-bracket_token rest = one_token 93 [] rest k.CloseBracket refl refl
-
-pub tuple_token : (rest : List ℕ) → tokens (123 ∷ rest) ≡ More 1 k.OpenTuple (tokens rest)
-unfolding piece mark
-tuple_token rest = one_token 123 [] rest k.OpenTuple refl refl
-
-pub brace_token : (rest : List ℕ) → tokens (125 ∷ rest) ≡ More 1 k.CloseBrace (tokens rest)
-unfolding piece mark
-brace_token rest = one_token 125 [] rest k.CloseBrace refl refl
 
 pub dot_token : tokens (46 ∷ []) ≡ More 1 k.Dot (tokens [])
 unfolding piece mark

@@ -1,50 +1,36 @@
 -- An integer in decimal is one token.
-use Rattle.std.proofs.Common.{◌≡◌, ℕ, ℤ, pos, negsuc, suc, ◌+◌, ◌-◌, ◌*◌, ◌<◌, ◌≤◌, Bool, true, false, List, [], ◌∷◌, ◌++◌, length, refl, ap, ◌∙◌, arith, if◌then◌else◌, ◌==◌, nat_lt, nat_le}
+use Rattle.std.proofs.Common.{◌≡◌, ℕ, ℤ, pos, negsuc, suc, ◌+◌, ◌-◌, ◌*◌, ◌<◌, Bool, true, false, List, [], ◌∷◌, ◌++◌, length, refl, ap, ◌∙◌, arith, if◌then◌else◌, nat_lt, nat_le}
 use Rattle.std.specs.Prelude.{◌-ℤ◌}
 use Rattle.std.proofs.Math.Seq.{take-append_seam, drop-append_seam}
 use Rattle.std.proofs.lemmas.Bool.Decides.{nat_tests}
 use Rattle.std.proofs.lemmas.Fmt.{digits_is_IsNumeral}
-use Rattle.std.proofs.lemmas.Str.Parse.{digit_from_value}
 use Rattle.std.specs.Char.{digit_value}
 use Rattle.std.specs.Fmt.{decimal, signed_decimal}
 use Rattle.std.specs.List.{list_all}
+use Rattle.std.specs.Cmp.Derive.{both_true}
 use Rattle.std.specs.Str.Parse.{AllDigits, digits_value_after}
 use borrow.Author.Tests.{ltb-true, lt-ltb}
 use Rattle.term_tree.proofs.TermLaws.{both_hold}
 use Rattle.term_tree.specs.Small.{is_small, small_limit}
 use Rattle.text_tokens.specs.declared.token.Piece.TheVariants.{Whole}
 use Rattle.text_tokens.specs.declared.token.Token.TheVariants as k
-use Rattle.text_tokens.specs.Character.{is_digit_of, begins, number_after}
-use Rattle.text_tokens.specs.Pieces.{piece, number, integer, is_digit, is_separator, is_no_line_feed}
+use Rattle.text_tokens.specs.Character.{is_digit_of, number_after}
+use Rattle.text_tokens.specs.Pieces.{number, integer, is_digit, is_no_line_feed}
 use Rattle.text_tokens.specs.Tokens.{More, tokens}
-use Rattle.printed_terms.proofs.Lexing.{both_true, one_token, run-front, Stops}
+use Rattle.text_tokens.proofs.Longest.{digit_byte, number_first}
+use Rattle.printed_terms.proofs.Lexing.{all_imply, one_token, run-front, Stops}
 
 -- the digits of a numeral, and its value, in the words of the reading
 pub all_digits : (base : ℕ) (ds : List ℕ) → AllDigits base ds → list_all (is_digit_of base) ds ≡ true
 all_digits base [] h = refl
-all_digits base (d ∷ ds) h = both_true (is_digit_of base d) (list_all (is_digit_of base) ds) (lt-ltb (digit_value d) base h.0) (all_digits base ds h.1)
+all_digits base (d ∷ ds) h = both_true (lt-ltb (digit_value d) base h.0) (all_digits base ds h.1)
 
 pub same_value : (base value : ℕ) (ds : List ℕ) → number_after base value ds ≡ digits_value_after base value ds
 same_value base value [] = refl
 same_value base value (d ∷ ds) = same_value base (value * base + digit_value d) ds
 
--- a digit is a byte from 48 to 57
-record IsDecimal (b : ℕ) : Type 0 where
-  separator : is_separator b ≡ false
-  percent : (b == 37) ≡ false
-  line_feed : is_no_line_feed b ≡ true
-
-decimal_byte : (b : ℕ) → 48 ≤ b → b ≤ 57 → IsDecimal b
-decimal_byte b low high = record { separator = grind (arith, nat_tests); percent = grind (arith, nat_tests); line_feed = grind (arith, nat_tests) }
-
-digit_byte : (b : ℕ) → is_digit b ≡ true → IsDecimal b
-digit_byte b h = let range = digit_from_value b (ltb-true (digit_value b) 10 h) in decimal_byte b range.0 range.1
-
 no_line_feeds : (ds : List ℕ) → list_all is_digit ds ≡ true → list_all is_no_line_feed ds ≡ true
-no_line_feeds [] h = refl
-no_line_feeds (d ∷ ds) h =
-    let both = both_hold (is_digit d) (list_all is_digit ds) h in
-    both_true (is_no_line_feed d) (list_all is_no_line_feed ds) (digit_byte d both.0).line_feed (no_line_feeds ds both.1)
+no_line_feeds = all_imply is_digit is_no_line_feed (λ d h. (digit_byte d h).line_feed)
 
 -- digits before a place where a number stops
 digits_number : (negative : Bool) (ds rest : List ℕ) → list_all is_digit ds ≡ true → Stops rest
@@ -53,15 +39,6 @@ unfolding number
 digits_number negative ds rest h stop =
     rw (run-front is_digit ds rest h stop.digit, take-append_seam ds rest, drop-append_seam ds rest, stop.fraction, stop.based) refl
 
--- what begins with a digit
-digit_first : (d : ℕ) (ds : List ℕ) → is_digit d ≡ true → piece (d ∷ ds) ≡ number false (d ∷ ds)
-unfolding piece
-digit_first d ds h = let byte = digit_byte d h in rw (byte.separator, byte.percent, h) refl
-
-minus_first : (ds : List ℕ) → begins is_digit ds ≡ true → piece (45 ∷ ds) ≡ number true ds
-unfolding piece
-minus_first ds h = rw h refl
-
 positive_token : (ds rest : List ℕ) (n : ℕ) → 0 < length ds → list_all is_digit ds ≡ true → number_after 10 0 ds ≡ n → n < small_limit → Stops rest
     → tokens (ds ++ rest) ≡ More 1 (k.Integer (pos n)) (tokens rest)
 positive_token [] rest n some h value small stop = absurd (omega arith)
@@ -69,7 +46,7 @@ positive_token (d ∷ ds) rest n some h value small stop =
     let both = both_hold (is_digit d) (list_all is_digit ds) h in
     let fits : nat_lt n small_limit ≡ true = lt-ltb n small_limit small in
     one_token d ds rest (k.Integer (pos n))
-    (digit_first d (ds ++ rest) both.0 ∙ digits_number false (d ∷ ds) rest h stop
+    (number_first false (d ∷ (ds ++ rest)) both.0 ∙ digits_number false (d ∷ ds) rest h stop
     ∙ ap (λ m. Whole (integer false m) (length (d ∷ ds))) value
     ∙ ap (λ b. Whole (if b then k.Integer (pos n) else k.Wide) (length (d ∷ ds))) fits)
     (no_line_feeds (d ∷ ds) h)
@@ -88,7 +65,7 @@ negative_token (d ∷ ds) rest n some h value small stop =
     let fits : nat_le (suc n) small_limit ≡ true = grind (arith, nat_tests) in
     let size : length (d ∷ ds) + 1 ≡ length (45 ∷ d ∷ ds) = omega arith in
     one_token 45 (d ∷ ds) rest (k.Integer (negsuc n))
-    (minus_first (d ∷ (ds ++ rest)) both.0 ∙ digits_number true (d ∷ ds) rest h stop
+    (number_first true (d ∷ (ds ++ rest)) both.0 ∙ digits_number true (d ∷ ds) rest h stop
     ∙ ap (λ m. Whole (integer true m) (length (d ∷ ds) + 1)) value
     ∙ ap (λ b. Whole (if b then k.Integer (pos 0 -ℤ pos (suc n)) else k.Wide) (length (d ∷ ds) + 1)) fits
     ∙ ap (λ i. Whole (k.Integer i) (length (d ∷ ds) + 1)) (minus n)

@@ -1,5 +1,5 @@
 -- An atom between quotes is one token.
-use Rattle.std.proofs.Common.{◌≡◌, ◌≢◌, ℕ, ◌+◌, ◌-◌, ◌<◌, ◌≤◌, Bool, true, false, List, [], ◌∷◌, ◌++◌, length, Some, encode_utf8, refl, sym, ap, ◌∙◌, subst, arith, ◌&&◌, nat_eq, nat_lt, nat_le, append_assoc, append-nil}
+use Rattle.std.proofs.Common.{◌≡◌, ◌≢◌, ℕ, ◌+◌, ◌-◌, ◌<◌, ◌≤◌, Bool, true, false, List, [], ◌∷◌, ◌++◌, length, drop, Some, None, encode_utf8, if◌then◌else◌, refl, sym, ap, ◌∙◌, subst, arith, ◌&&◌, nat_eq, nat_lt, nat_le, append_assoc}
 use Rattle.std.proofs.Math.Seq.{take-append_seam, drop-append_seam}
 use Rattle.std.proofs.lemmas.Bool.Decides.{nat_tests}
 use Rattle.std.proofs.lemmas.Fmt.{digits_is_IsNumeral}
@@ -7,19 +7,24 @@ use Rattle.std.proofs.lemmas.List.{length-append}
 use Rattle.std.proofs.lemmas.Str.{encodes-chars, scalars-chars}
 use Rattle.std.specs.Fmt.{digits}
 use Rattle.std.specs.List.{list_all, flat_map}
+use Rattle.std.specs.Prelude.{option_and_then}
+use Rattle.std.specs.Cmp.Derive.{both_true}
+use Rattle.std.proofs.lemmas.List.Folds.{list_all-append}
 use Rattle.std.specs.Str.{chars, IsUtf8}
-use lib.Utf8.{scalar, scalars, encodes, scalar_fits}
+use lib.Utf8.{scalar, scalars, encodes, scalar_fits, low_scalar}
 use borrow.Author.Tests.{lt-ltb, eqb-true}
 use Rattle.term_tree.proofs.TermLaws.{both_hold}
+use Rattle.term_tree.specs.declared.name.TheConstants.{MOST_CHARACTERS}
 use Rattle.term_tree.specs.Name.{characters_in}
 use Rattle.term_tree.specs.Text.{quoted_character as spelled}
 use Rattle.text_tokens.specs.declared.token.Piece.TheVariants.{Whole}
 use Rattle.text_tokens.specs.declared.token.Token.TheVariants as k
-use Rattle.text_tokens.specs.Character.{is_digit_of, number_after, braced_escape, quoted_character, between_quotes}
+use Rattle.text_tokens.specs.Character.{is_digit_of, number_after, scalar_of, braced_escape, quoted_character, between_quotes}
 use Rattle.text_tokens.specs.Pieces.{piece, atom, quoted, is_no_line_feed}
 use Rattle.text_tokens.specs.Tokens.{More, tokens}
-use Rattle.text_tokens.proofs.Quotes.{quotes-skip, quotes-more}
-use Rattle.printed_terms.proofs.Lexing.{both_true, one_token, run-front}
+use Rattle.text_tokens.specs.Cuts.{IsQuoted, closes, goes_on}
+use Rattle.text_tokens.proofs.CutLaws.{quotes-joined}
+use Rattle.printed_terms.proofs.Lexing.{all_imply, one_token, run-front}
 use Rattle.printed_terms.proofs.Numbers.{all_digits, same_value}
 use Rattle.printed_terms.proofs.BareAtoms.{short_atom}
 
@@ -44,7 +49,7 @@ backslash_spelled = record { first = 92; others = 92 ∷ []; is = refl; no_quote
 
 plain_read : (c : ℕ) (tail : List ℕ) → nat_eq c 92 ≡ false → c < 128 → quoted_character (c ∷ tail) ≡ Some (c, 1)
 unfolding quoted_character
-plain_read c tail e h = let low : nat_lt c 128 ≡ true = lt-ltb c 128 h in rw (e, low) refl
+plain_read c tail e h = let low : nat_lt c 128 ≡ true = lt-ltb c 128 h in rw (e, low, low_scalar c (omega arith)) refl
 
 plain_spelled : (c : ℕ) → nat_eq c 39 ≡ false → nat_eq c 92 ≡ false → nat_le 32 c && nat_le c 126 ≡ true → IsSpelled c
 plain_spelled c e f h =
@@ -53,7 +58,7 @@ plain_spelled c e f h =
     let high : c ≤ 126 = grind (arith, nat_tests) in
     let other : c ≢ 39 = grind (arith, nat_tests) in
     let line : is_no_line_feed c ≡ true = grind (arith, nat_tests) in
-    record { first = c; others = []; is = rw (e, f, h) refl; no_quote = other; reads = (λ tail. plain_read c tail f (omega arith)); no_line_feed = both_true (is_no_line_feed c) true line refl }
+    record { first = c; others = []; is = rw (e, f, h) refl; no_quote = other; reads = (λ tail. plain_read c tail f (omega arith)); no_line_feed = both_true line refl }
 
 -- hexadecimal digits in braces
 braced : (ds tail : List ℕ) (c : ℕ) → 0 < length ds → list_all (is_digit_of 16) ds ≡ true → number_after 16 0 ds ≡ c → scalar c ≡ true
@@ -67,22 +72,11 @@ coded_read : (ds tail : List ℕ) (c : ℕ) → 0 < length ds → list_all (is_d
 unfolding quoted_character
 coded_read ds tail c some h value fine =
     let size : length ds + 4 ≡ length (92 ∷ 120 ∷ 123 ∷ (ds ++ 125 ∷ [])) = omega (arith, length-append ds (125 ∷ [])) in
-    ap braced_escape (append_assoc ds (125 ∷ []) tail) ∙ braced ds tail c some h value fine ∙ ap (λ n. Some (c, n)) size
+    ap (option_and_then (λ c. scalar_of c.0 c.1)) (ap braced_escape (append_assoc ds (125 ∷ []) tail) ∙ braced ds tail c some h value fine)
+    ∙ ap (λ test. if test then Some (c, length ds + 4) else None) fine ∙ ap (λ n. Some (c, n)) size
 
 hex_line : (b : ℕ) → is_digit_of 16 b ≡ true → is_no_line_feed b ≡ true
 hex_line b h = grind (arith, nat_tests)
-
-pub no_line_feed-joined : (bs cs : List ℕ) → list_all is_no_line_feed bs ≡ true → list_all is_no_line_feed cs ≡ true → list_all is_no_line_feed (bs ++ cs) ≡ true
-no_line_feed-joined [] cs h e = e
-no_line_feed-joined (b ∷ bs) cs h e =
-    let both = both_hold (is_no_line_feed b) (list_all is_no_line_feed bs) h in
-    both_true (is_no_line_feed b) (list_all is_no_line_feed (bs ++ cs)) both.0 (no_line_feed-joined bs cs both.1 e)
-
-hex_lines : (ds : List ℕ) → list_all (is_digit_of 16) ds ≡ true → list_all is_no_line_feed ds ≡ true
-hex_lines [] h = refl
-hex_lines (d ∷ ds) h =
-    let both = both_hold (is_digit_of 16 d) (list_all (is_digit_of 16) ds) h in
-    both_true (is_no_line_feed d) (list_all is_no_line_feed ds) (hex_line d both.0) (hex_lines ds both.1)
 
 coded_spelled : (c : ℕ) → nat_eq c 39 ≡ false → nat_eq c 92 ≡ false → nat_le 32 c && nat_le c 126 ≡ false → scalar c ≡ true → IsSpelled c
 coded_spelled c e f h fine =
@@ -95,7 +89,7 @@ coded_spelled c e f h fine =
       is = rw (e, f, h) refl;
       no_quote = (λ e. absurd (omega arith));
       reads = (λ tail. coded_read (digits 16 true c) tail c numeral.0.0 all (same_value 16 0 (digits 16 true c) ∙ numeral.1) fine);
-      no_line_feed = no_line_feed-joined (digits 16 true c) (125 ∷ []) (hex_lines (digits 16 true c) all) refl;
+      no_line_feed = list_all-append is_no_line_feed (digits 16 true c) (125 ∷ []) ∙ both_true (all_imply (is_digit_of 16) is_no_line_feed hex_line (digits 16 true c) all) refl;
     }
 
 by_tests : (c : ℕ) (quote backslash printable : Bool) → nat_eq c 39 ≡ quote → nat_eq c 92 ≡ backslash → nat_le 32 c && nat_le c 126 ≡ printable → scalar c ≡ true → IsSpelled c
@@ -109,37 +103,25 @@ is_spelled c fine = by_tests c (nat_eq c 39) (nat_eq c 92) (nat_le 32 c && nat_l
 
 -- ---- what stands between the quotes
 
-passed : (cs got tail : List ℕ) → between_quotes 39 (length cs) got (cs ++ tail) ≡ between_quotes 39 0 got tail
-passed [] got tail = refl
-passed (c ∷ cs) got tail =
-    let one_less : length (c ∷ cs) - 1 ≡ length cs = omega arith in
-    quotes-skip 39 (length (c ∷ cs)) got (c ∷ (cs ++ tail)) c (cs ++ tail) refl (omega arith)
-    ∙ ap (λ n. between_quotes 39 n got (cs ++ tail)) one_less
-    ∙ passed cs got tail
-
-one_character : (c : ℕ) (got tail : List ℕ) → IsSpelled c → between_quotes 39 0 got (spelled c ++ tail) ≡ between_quotes 39 0 (got ++ encode_utf8 c) tail
-one_character c got tail s =
-    let one_less : length (s.first ∷ s.others) - 1 ≡ length s.others = omega arith in
-    ap (λ bs. between_quotes 39 0 got (bs ++ tail)) s.is
-    ∙ quotes-more 39 0 got (s.first ∷ (s.others ++ tail)) s.first (s.others ++ tail) c (length (s.first ∷ s.others)) refl (omega arith) s.no_quote (s.reads tail)
-    ∙ ap (λ n. between_quotes 39 n (got ++ encode_utf8 c) (s.others ++ tail)) one_less
-    ∙ passed s.others (got ++ encode_utf8 c) tail
-
-inside : (cs got rest : List ℕ) → scalars cs ≡ true → between_quotes 39 0 got (flat_map spelled cs ++ 39 ∷ rest) ≡ Some (got ++ encodes cs, length rest)
-inside [] got rest h = ap (λ bs. Some (bs, length rest)) (sym (append-nil got))
-inside (c ∷ cs) got rest h =
+inside : (cs rest : List ℕ) → scalars cs ≡ true → IsQuoted 39 (flat_map spelled cs ++ 39 ∷ rest) (encodes cs) rest
+inside [] rest h = closes rest
+inside (c ∷ cs) rest h =
     let both = both_hold (scalar c) (scalars cs) h in
-    ap (between_quotes 39 0 got) (append_assoc (spelled c) (flat_map spelled cs) (39 ∷ rest))
-    ∙ one_character c got (flat_map spelled cs ++ 39 ∷ rest) (is_spelled c both.0)
-    ∙ inside cs (got ++ encode_utf8 c) rest both.1
-    ∙ ap (λ bs. Some (bs, length rest)) (append_assoc got (encode_utf8 c) (encodes cs))
+    let s = is_spelled c both.0 in
+    let tail : List ℕ = flat_map spelled cs ++ 39 ∷ rest in
+    let less : length (s.first ∷ s.others) - 1 ≡ length s.others = omega arith in
+    let P : List ℕ → Type 0 = λ bs. IsQuoted 39 bs (encodes cs) rest in
+    let Q : List ℕ → Type 0 = λ bs. IsQuoted 39 bs (encode_utf8 c ++ encodes cs) rest in
+    let joins : s.first ∷ (s.others ++ tail) ≡ (spelled c ++ flat_map spelled cs) ++ 39 ∷ rest = ap (λ bs. bs ++ tail) (sym s.is) ∙ sym (append_assoc (spelled c) (flat_map spelled cs) (39 ∷ rest)) in
+    subst Q joins (goes_on s.first (s.others ++ tail) c (length (s.first ∷ s.others)) (encodes cs) rest s.no_quote (s.reads tail)
+    (subst P (sym (ap (λ n. drop n (s.others ++ tail)) less ∙ drop-append_seam s.others tail)) (inside cs rest both.1)))
 
 inside_lines : (cs : List ℕ) → scalars cs ≡ true → list_all is_no_line_feed (flat_map spelled cs) ≡ true
 inside_lines [] h = refl
 inside_lines (c ∷ cs) h =
     let both = both_hold (scalar c) (scalars cs) h in
     let s = is_spelled c both.0 in
-    no_line_feed-joined (spelled c) (flat_map spelled cs) (ap (list_all is_no_line_feed) s.is ∙ s.no_line_feed) (inside_lines cs both.1)
+    list_all-append is_no_line_feed (spelled c) (flat_map spelled cs) ∙ both_true (ap (list_all is_no_line_feed) s.is ∙ s.no_line_feed) (inside_lines cs both.1)
 
 -- ---- the atom
 
@@ -152,7 +134,7 @@ unfolding quoted
 closed text size left = refl
 
 -- the whole of an atom, by what stands between its quotes
-between : (inner a rest : List ℕ) → between_quotes 39 0 [] (inner ++ 39 ∷ rest) ≡ Some (a, length rest) → list_all is_no_line_feed inner ≡ true → characters_in a ≤ 255
+between : (inner a rest : List ℕ) → between_quotes 39 0 [] (inner ++ 39 ∷ rest) ≡ Some (a, length rest) → list_all is_no_line_feed inner ≡ true → characters_in a ≤ MOST_CHARACTERS
     → tokens (39 ∷ ((inner ++ 39 ∷ []) ++ rest)) ≡ More 1 (k.Atom a) (tokens rest)
 between inner a rest e line few =
     let left : ℕ = length ((inner ++ 39 ∷ []) ++ rest) + 1 in
@@ -164,9 +146,9 @@ between inner a rest e line few =
     ∙ closed a left (length rest)
     ∙ short_atom a (left - length rest) few
     ∙ ap (Whole (k.Atom a)) size)
-    (no_line_feed-joined inner (39 ∷ []) line refl)
+    (list_all-append is_no_line_feed inner (39 ∷ []) ∙ both_true line refl)
 
-pub quoted_token : (a rest : List ℕ) → IsUtf8 a → characters_in a ≤ 255 → tokens (39 ∷ ((flat_map spelled (chars a) ++ 39 ∷ []) ++ rest)) ≡ More 1 (k.Atom a) (tokens rest)
+pub quoted_token : (a rest : List ℕ) → IsUtf8 a → characters_in a ≤ MOST_CHARACTERS → tokens (39 ∷ ((flat_map spelled (chars a) ++ 39 ∷ []) ++ rest)) ≡ More 1 (k.Atom a) (tokens rest)
 quoted_token a rest text few =
     let fine = scalars-chars a text in
-    between (flat_map spelled (chars a)) a rest (inside (chars a) [] rest fine ∙ ap (λ bs. Some (bs, length rest)) (encodes-chars a text)) (inside_lines (chars a) fine) few
+    between (flat_map spelled (chars a)) a rest (quotes-joined 39 (flat_map spelled (chars a) ++ 39 ∷ rest) (encodes (chars a)) rest [] (inside (chars a) rest fine) ∙ ap (λ bs. Some (bs, length rest)) (encodes-chars a text)) (inside_lines (chars a) fine) few

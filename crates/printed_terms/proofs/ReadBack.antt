@@ -1,29 +1,28 @@
 -- What a term prints is read as that term.
-use Rattle.std.proofs.Common.{◌≡◌, ℕ, suc, ◌≤◌, true, [], ◌∷◌, ◌++◌, Ok, refl, sym, ap, ◌∙◌, subst, arith}
+use Rattle.std.proofs.Common.{◌≡◌, ℕ, suc, ◌≤◌, true, [], ◌∷◌, ◌++◌, Ok, refl, sym, ap, ◌∙◌, subst, arith, append-nil}
 use lib.Chars.{codes}
 use Rattle.term_tree.specs.declared.term.Term.{Term}
 use Rattle.term_tree.specs.Term.{tree_of, is_canonical}
 use Rattle.term_tree.specs.Text.{text_of}
 use Rattle.text_forms.specs.declared.form.Form.{Form}
 use Rattle.text_tokens.specs.declared.token.Token.TheVariants as k
-use Rattle.text_tokens.specs.Tokens.{More, Stop, tokens, at, lined}
+use Rattle.text_tokens.specs.Tokens.{Stop, tokens, at, lined}
 use Rattle.text_forms.specs.Spelling.{one_term, AreForms, no_forms, more_forms, some_arguments}
 use Rattle.text_forms.proofs.Readings.{lined-joined}
 use Rattle.text_forms.proofs.Reached.{allowed_joined}
 use Rattle.asm_text.specs.Reading.{reading, arguments}
-use Rattle.asm_text.proofs.ReadingLaws.{reading-written, arguments-written}
+use Rattle.asm_text.proofs.ReadingLaws.{reading-one, arguments-one}
 use Rattle.printed_terms.specs.Printable.{has_names, depth_of}
-use Rattle.printed_terms.proofs.Lexing.{stops_bracket, stops_dot, list_token, bracket_token, dot_token}
+use Rattle.printed_terms.proofs.Lexing.{stops_dot, dot_token, open_list, close_list}
 use Rattle.printed_terms.proofs.Allowed.{list_allows}
-use Rattle.printed_terms.proofs.Written.{written}
+use Rattle.printed_terms.proofs.Written.{brackets_read, written}
 
 pub in_brackets : (x : Term) → is_canonical x ≡ true → has_names x ≡ true → depth_of x ≤ 199 → arguments (codes "[" ++ text_of (tree_of x) ++ codes "]") ≡ Ok (x ∷ [])
 in_brackets x c n d =
     let w = written x c n in
     let is : tokens (91 ∷ (text_of (tree_of x) ++ 93 ∷ [])) ≡ lined (at 1 k.OpenList ∷ (w.ts ++ at 1 k.CloseBracket ∷ [])) (Stop 1) =
-    list_token (text_of (tree_of x) ++ 93 ∷ [])
-    ∙ ap (More 1 k.OpenList) (w.reads (93 ∷ []) (stops_bracket []) ∙ ap (lined w.ts) (bracket_token []) ∙ sym (lined-joined w.ts (at 1 k.CloseBracket ∷ []) (Stop 1))) in
-    arguments-written (91 ∷ (text_of (tree_of x) ++ 93 ∷ [])) (x ∷ [])
+    ap (λ bs. tokens (91 ∷ bs)) (sym (append-nil (text_of (tree_of x) ++ 93 ∷ []))) ∙ brackets_read 91 93 k.OpenList k.CloseBracket (text_of (tree_of x)) w.ts open_list close_list w.reads [] in
+    arguments-one (91 ∷ (text_of (tree_of x) ++ 93 ∷ [])) (Ok (x ∷ []))
     (at 1 k.OpenList ∷ (w.ts ++ at 1 k.CloseBracket ∷ []), 1, is, (some_arguments 1 1 (x ∷ []) w.ts (one_term x w.ts w.spells), (list_allows (depth_of x) (suc (depth_of x)) w.ts (omega arith) w.allows [] (omega arith)).fine))
 
 -- the one form of a text in the first line
@@ -37,7 +36,7 @@ before_dot x c n d =
     w.reads (46 ∷ []) stops_dot ∙ ap (lined w.ts) dot_token ∙ sym (lined-joined w.ts (at 1 k.Dot ∷ []) (Stop 1)) in
     let P : ℕ → Type 0 = λ line. AreForms (form_of line x ∷ []) (w.ts ++ at 1 k.Dot ∷ []) in
     let forms : P 1 = subst P w.first (more_forms [] [] x w.ts 1 no_forms w.spells) in
-    reading-written (text_of (tree_of x) ++ 46 ∷ []) (form_of 1 x ∷ []) (w.ts ++ at 1 k.Dot ∷ [], 1, is, (forms, allowed_joined [] w.ts (at 1 k.Dot ∷ []) (w.allows [] (omega arith)).fine (refl, tt)))
+    reading-one (text_of (tree_of x) ++ 46 ∷ []) (Ok (form_of 1 x ∷ [])) (w.ts ++ at 1 k.Dot ∷ [], 1, is, (forms, allowed_joined [] w.ts (at 1 k.Dot ∷ []) (w.allows [] (omega arith)).fine (refl, tt)))
 
 -- two terms with one text are one term
 pub one_text : (x y : Term) → is_canonical x ≡ true → is_canonical y ≡ true → has_names x ≡ true → has_names y ≡ true → depth_of x ≤ 200 → depth_of y ≤ 200

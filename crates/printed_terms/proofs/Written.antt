@@ -7,19 +7,21 @@ use Rattle.std.specs.List.{list_all, flat_map}
 use Rattle.std.specs.Str.{chars, is_utf8}
 use Rattle.term_tree.specs.declared.term.Term as t
 use Rattle.term_tree.specs.declared.term.Term.{Term}
+use Rattle.term_tree.specs.declared.name.TheConstants.{MOST_CHARACTERS}
 use Rattle.term_tree.specs.Name.{characters_in, is_name}
 use Rattle.term_tree.specs.Term.{tree_of, is_canonical}
 use Rattle.term_tree.specs.Text.{text_of, joined, atom_text, is_bare, is_reserved, quoted_character}
 use Rattle.text_forms.specs.Spelling.{with_tail}
 use Rattle.term_tree.proofs.TermLaws.{term_ind, tree_of-Int, tree_of-Atom, both_hold, canonical-Int, canonical-proper, canonical-Tuple, improper_parts}
 use Rattle.term_tree.proofs.TextLaws.{text-List, text-Tuple}
+use Rattle.text_tokens.specs.declared.token.Token.{Token}
 use Rattle.text_tokens.specs.declared.token.Token.TheVariants as k
 use Rattle.text_tokens.specs.Tokens.{More, tokens, Lined, at, lined}
 use Rattle.text_forms.specs.Spelling.{first_line, Spells, One, Terms, integer, atom, empty_tuple, tuple, empty_list, list, tail, one_term, more_terms}
 use Rattle.text_forms.proofs.Readings.{lined-joined}
 use Rattle.printed_terms.proofs.Allowed.{Allows, joined_allows, tuple_allows, list_allows, deeper_allows, integer_allows, atom_allows, comma_allows, bar_allows, nothing_allows}
 use Rattle.printed_terms.specs.Printable.{has_names, depth_of, deepest}
-use Rattle.printed_terms.proofs.Lexing.{Stops, stops_comma, stops_bar, stops_bracket, stops_brace, comma_token, bar_token, list_token, bracket_token, tuple_token, brace_token}
+use Rattle.printed_terms.proofs.Lexing.{Stops, IsMark, comma, bar, open_list, close_list, open_tuple, close_tuple}
 use Rattle.printed_terms.proofs.Numbers.{integer_token}
 use Rattle.printed_terms.proofs.BareAtoms.{bare_token}
 use Rattle.printed_terms.proofs.QuotedAtoms.{quoted_token}
@@ -27,7 +29,7 @@ use Rattle.printed_terms.proofs.Layers.{depth-proper, depth-improper, depth-Tupl
 
 -- ---- atoms
 
-few : (n : ℕ) → not (nat_lt 255 n) ≡ true → n ≤ 255
+few : (n : ℕ) → not (nat_lt MOST_CHARACTERS n) ≡ true → n ≤ MOST_CHARACTERS
 few n h = grind (arith, nat_tests)
 
 by_form : (a rest : List ℕ) (plain : Bool) → (is_bare a && not (is_reserved a)) ≡ plain → is_name a ≡ true → Stops rest
@@ -50,35 +52,21 @@ atom_token a rest h stop = by_form a rest (is_bare a && not (is_reserved a)) ref
 abbrev Reads : List ℕ → List Lined → Type 0
 Reads text ts = (rest : List ℕ) → Stops rest → tokens (text ++ rest) ≡ lined ts (tokens rest)
 
-comma_reads : (text others : List ℕ) (ts us : List Lined) → Reads text ts → Reads others us → Reads (text ++ 44 ∷ others) (ts ++ at 1 k.Comma ∷ us)
-comma_reads text others ts us reads more rest stop =
-    ap tokens (append_assoc text (44 ∷ others) rest)
-    ∙ reads (44 ∷ (others ++ rest)) (stops_comma (others ++ rest))
-    ∙ ap (lined ts) (comma_token (others ++ rest) ∙ ap (More 1 k.Comma) (more rest stop))
-    ∙ sym (lined-joined ts (at 1 k.Comma ∷ us) (tokens rest))
+-- with a mark between them
+mark_reads : (b : ℕ) (token : Token) (text others : List ℕ) (ts us : List Lined) → IsMark b token → Reads text ts → Reads others us → Reads (text ++ b ∷ others) (ts ++ at 1 token ∷ us)
+mark_reads b token text others ts us is reads more rest stop =
+    ap tokens (append_assoc text (b ∷ others) rest)
+    ∙ reads (b ∷ (others ++ rest)) (is.stops (others ++ rest))
+    ∙ ap (lined ts) (is.reads (others ++ rest) ∙ ap (More 1 token) (more rest stop))
+    ∙ sym (lined-joined ts (at 1 token ∷ us) (tokens rest))
 
-list_reads : (text : List ℕ) (ts : List Lined) → Reads text ts → (rest : List ℕ) → tokens (91 ∷ ((text ++ 93 ∷ []) ++ rest)) ≡ lined (at 1 k.OpenList ∷ (ts ++ at 1 k.CloseBracket ∷ [])) (tokens rest)
-list_reads text ts reads rest =
-    list_token ((text ++ 93 ∷ []) ++ rest)
-    ∙ ap (λ bs. More 1 k.OpenList (tokens bs)) (append_assoc text (93 ∷ []) rest)
-    ∙ ap (More 1 k.OpenList) (reads (93 ∷ rest) (stops_bracket rest) ∙ ap (lined ts) (bracket_token rest) ∙ sym (lined-joined ts (at 1 k.CloseBracket ∷ []) (tokens rest)))
-
-tuple_reads : (text : List ℕ) (ts : List Lined) → Reads text ts → (rest : List ℕ) → tokens (123 ∷ ((text ++ 125 ∷ []) ++ rest)) ≡ lined (at 1 k.OpenTuple ∷ (ts ++ at 1 k.CloseBrace ∷ [])) (tokens rest)
-tuple_reads text ts reads rest =
-    tuple_token ((text ++ 125 ∷ []) ++ rest)
-    ∙ ap (λ bs. More 1 k.OpenTuple (tokens bs)) (append_assoc text (125 ∷ []) rest)
-    ∙ ap (More 1 k.OpenTuple) (reads (125 ∷ rest) (stops_brace rest) ∙ ap (lined ts) (brace_token rest) ∙ sym (lined-joined ts (at 1 k.CloseBrace ∷ []) (tokens rest)))
-
-tail_reads : (text end : List ℕ) (ts us : List Lined) → Reads text ts → Reads end us → (rest : List ℕ)
-    → tokens (91 ∷ ((text ++ (124 ∷ (end ++ 93 ∷ []))) ++ rest)) ≡ lined (at 1 k.OpenList ∷ (ts ++ at 1 k.Bar ∷ (us ++ at 1 k.CloseBracket ∷ []))) (tokens rest)
-tail_reads text end ts us reads more rest =
-    let closing : tokens ((end ++ 93 ∷ []) ++ rest) ≡ lined (us ++ at 1 k.CloseBracket ∷ []) (tokens rest) =
-    ap tokens (append_assoc end (93 ∷ []) rest) ∙ more (93 ∷ rest) (stops_bracket rest) ∙ ap (lined us) (bracket_token rest) ∙ sym (lined-joined us (at 1 k.CloseBracket ∷ []) (tokens rest)) in
-    list_token ((text ++ (124 ∷ (end ++ 93 ∷ []))) ++ rest)
-    ∙ ap (λ bs. More 1 k.OpenList (tokens bs)) (append_assoc text (124 ∷ (end ++ 93 ∷ [])) rest)
-    ∙ ap (More 1 k.OpenList) (reads (124 ∷ ((end ++ 93 ∷ []) ++ rest)) (stops_bar ((end ++ 93 ∷ []) ++ rest))
-    ∙ ap (lined ts) (bar_token ((end ++ 93 ∷ []) ++ rest) ∙ ap (More 1 k.Bar) closing)
-    ∙ sym (lined-joined ts (at 1 k.Bar ∷ (us ++ at 1 k.CloseBracket ∷ [])) (tokens rest)))
+-- in brackets
+pub brackets_read : (b c : ℕ) (left right : Token) (text : List ℕ) (ts : List Lined) → IsMark b left → IsMark c right → Reads text ts → (rest : List ℕ) →
+    tokens (b ∷ ((text ++ c ∷ []) ++ rest)) ≡ lined (at 1 left ∷ (ts ++ at 1 right ∷ [])) (tokens rest)
+brackets_read b c left right text ts begins ends reads rest =
+    begins.reads ((text ++ c ∷ []) ++ rest)
+    ∙ ap (λ bs. More 1 left (tokens bs)) (append_assoc text (c ∷ []) rest)
+    ∙ ap (More 1 left) (reads (c ∷ rest) (ends.stops rest) ∙ ap (lined ts) (ends.reads rest) ∙ sym (lined-joined ts (at 1 right ∷ []) (tokens rest)))
 
 -- ---- terms
 
@@ -134,7 +122,7 @@ all_written x (y ∷ all) c n =
       spells = terms_of x.0 w.ts (bare (y ∷ all)) more.ts w.spells more.spells;
       allows = joined_allows most w.ts (at 1 k.Comma ∷ more.ts) (deeper_allows (depth_of x.0) most w.ts (le-max_left (depth_of x.0) deep) w.allows)
           (joined_allows most (at 1 k.Comma ∷ []) more.ts (comma_allows most) (deeper_allows deep most more.ts (le-max_right (depth_of x.0) deep) more.allows));
-      reads = comma_reads (text_of (tree_of x.0)) (joined (map tree_of (bare (y ∷ all)))) w.ts more.ts w.reads more.reads;
+      reads = mark_reads 44 k.Comma (text_of (tree_of x.0)) (joined (map tree_of (bare (y ∷ all)))) w.ts more.ts comma w.reads more.reads;
     }
 
 int_written : (i : ℤ) → IsWritten (t.Int i)
@@ -157,26 +145,22 @@ atom_written a c n = record {
   reads = (λ rest stop. ap (λ tree. tokens (text_of tree ++ rest)) (tree_of-Atom a) ∙ atom_token a rest (sym (names-Atom a) ∙ n) stop);
 }
 
+-- what stands in the brackets of a list or of a tuple
+bracketed : (x : Term) (b c : ℕ) (left right : Token) (text : List ℕ) (ts : List Lined) → IsMark b left → IsMark c right → text_of (tree_of x) ≡ b ∷ (text ++ c ∷ []) → Spells (One x) (at 1 left ∷ (ts ++ at 1 right ∷ [])) →
+    Allows (depth_of x) (at 1 left ∷ (ts ++ at 1 right ∷ [])) → Reads text ts → Written x
+bracketed x b c left right text ts begins ends is spells allows reads =
+    record { ts = at 1 left ∷ (ts ++ at 1 right ∷ []); spells = spells; allows = allows; first = refl; reads = (λ rest stop. ap (λ bs. tokens (bs ++ rest)) is ∙ brackets_read b c left right text ts begins ends reads rest) }
+
 proper_written : (all : List ((x : Term) × IsWritten x)) → IsWritten (t.List (bare all) None)
 unfolding IsWritten
-proper_written [] c n = record {
-  ts = at 1 k.OpenList ∷ at 1 k.CloseBracket ∷ [];
-  spells = empty_list 1 1;
-  allows = list_allows 0 (depth_of (t.List [] None)) [] (omega (arith, depth-proper [])) (nothing_allows 0);
-  first = refl;
-  reads = (λ rest stop. ap (λ text. tokens (text ++ rest)) (text-List [] None c) ∙ list_token (93 ∷ rest) ∙ ap (More 1 k.OpenList) (bracket_token rest));
-}
+proper_written [] c n =
+    bracketed (t.List [] None) 91 93 k.OpenList k.CloseBracket [] [] open_list close_list (text-List [] None c) (empty_list 1 1)
+    (list_allows 0 (depth_of (t.List [] None)) [] (omega (arith, depth-proper [])) (nothing_allows 0)) (λ rest stop. refl)
 proper_written (x ∷ all) c n =
     let items : List Term = bare (x ∷ all) in
-    let deep : ℕ = deepest (map depth_of items) in
     let w = all_written x all (sym (canonical-proper items) ∙ c) (sym (names-proper items) ∙ n) in
-    record {
-      ts = at 1 k.OpenList ∷ (w.ts ++ at 1 k.CloseBracket ∷ []);
-      spells = list 1 1 items w.ts w.spells;
-      allows = list_allows deep (depth_of (t.List items None)) w.ts (omega (arith, depth-proper items, le-max_left deep 0)) w.allows;
-      first = refl;
-      reads = (λ rest stop. ap (λ text. tokens (text ++ rest)) (text-List items None c) ∙ list_reads (joined (map tree_of items)) w.ts w.reads rest);
-    }
+    bracketed (t.List items None) 91 93 k.OpenList k.CloseBracket (joined (map tree_of items)) w.ts open_list close_list (text-List items None c) (list 1 1 items w.ts w.spells)
+    (list_allows (deepest (map depth_of items)) (depth_of (t.List items None)) w.ts (omega (arith, depth-proper items, le-max_left (deepest (map depth_of items)) 0)) w.allows) w.reads
 
 improper_written : (all : List ((x : Term) × IsWritten x)) (e : Term) → IsWritten e → IsWritten (t.List (bare all) (Some e))
 unfolding IsWritten
@@ -190,41 +174,27 @@ improper_written (x ∷ all) e p c n =
     let w = all_written x all parts.front named.0 in
     let v = p parts.tail named.1 in
     let ts : List Lined = w.ts ++ at 1 k.Bar ∷ v.ts in
-    let joins : ts ++ at 1 k.CloseBracket ∷ [] ≡ w.ts ++ at 1 k.Bar ∷ (v.ts ++ at 1 k.CloseBracket ∷ []) = append_assoc w.ts (at 1 k.Bar ∷ v.ts) (at 1 k.CloseBracket ∷ []) in
-    let P : Term → Type 0 = λ z. Spells (One z) (at 1 k.OpenList ∷ (w.ts ++ at 1 k.Bar ∷ (v.ts ++ at 1 k.CloseBracket ∷ []))) in
-    let Q : List Lined → Type 0 = λ us. Spells (One (with_tail items e)) (at 1 k.OpenList ∷ us) in
-    let R : List Lined → Type 0 = λ us. Allows (depth_of (t.List items (Some e))) (at 1 k.OpenList ∷ us) in
-    let regroup : ((w.ts ++ at 1 k.Bar ∷ []) ++ v.ts) ++ at 1 k.CloseBracket ∷ [] ≡ w.ts ++ at 1 k.Bar ∷ (v.ts ++ at 1 k.CloseBracket ∷ []) = simp append_assoc in
-    record {
-      ts = at 1 k.OpenList ∷ (w.ts ++ at 1 k.Bar ∷ (v.ts ++ at 1 k.CloseBracket ∷ []));
-      spells = subst P (with_tail-end items e parts.no_list) (subst Q regroup (tail 1 1 1 items w.ts e v.ts w.spells v.spells));
-      allows = subst R joins (list_allows deep (depth_of (t.List items (Some e))) ts (omega (arith, depth-improper items e))
-          (joined_allows deep w.ts (at 1 k.Bar ∷ v.ts) (deeper_allows front deep w.ts (le-max_left front (depth_of e)) w.allows)
-          (joined_allows deep (at 1 k.Bar ∷ []) v.ts (bar_allows deep) (deeper_allows (depth_of e) deep v.ts (le-max_right front (depth_of e)) v.allows))));
-      first = refl;
-      reads = (λ rest stop. ap (λ text. tokens (text ++ rest)) (text-List items (Some e) c) ∙ tail_reads (joined (map tree_of items)) (text_of (tree_of e)) w.ts v.ts w.reads v.reads rest);
-    }
+    let text : List ℕ = joined (map tree_of items) ++ 124 ∷ text_of (tree_of e) in
+    let P : Term → Type 0 = λ z. Spells (One z) (at 1 k.OpenList ∷ (ts ++ at 1 k.CloseBracket ∷ [])) in
+    let Q : List Lined → Type 0 = λ us. Spells (One (with_tail items e)) (at 1 k.OpenList ∷ (us ++ at 1 k.CloseBracket ∷ [])) in
+    bracketed (t.List items (Some e)) 91 93 k.OpenList k.CloseBracket text ts open_list close_list
+    (text-List items (Some e) c ∙ ap (λ bs. 91 ∷ bs) (sym (append_assoc (joined (map tree_of items)) (124 ∷ text_of (tree_of e)) (93 ∷ []))))
+    (subst P (with_tail-end items e parts.no_list) (subst Q (append_assoc w.ts (at 1 k.Bar ∷ []) v.ts) (tail 1 1 1 items w.ts e v.ts w.spells v.spells)))
+    (list_allows deep (depth_of (t.List items (Some e))) ts (omega (arith, depth-improper items e))
+    (joined_allows deep w.ts (at 1 k.Bar ∷ v.ts) (deeper_allows front deep w.ts (le-max_left front (depth_of e)) w.allows)
+    (joined_allows deep (at 1 k.Bar ∷ []) v.ts (bar_allows deep) (deeper_allows (depth_of e) deep v.ts (le-max_right front (depth_of e)) v.allows))))
+    (mark_reads 124 k.Bar (joined (map tree_of items)) (text_of (tree_of e)) w.ts v.ts bar w.reads v.reads)
 
 tuple_written : (all : List ((x : Term) × IsWritten x)) → IsWritten (t.Tuple (bare all))
 unfolding IsWritten
-tuple_written [] c n = record {
-  ts = at 1 k.OpenTuple ∷ at 1 k.CloseBrace ∷ [];
-  spells = empty_tuple 1 1;
-  allows = tuple_allows 0 (depth_of (t.Tuple [])) [] (omega (arith, depth-Tuple [])) (nothing_allows 0);
-  first = refl;
-  reads = (λ rest stop. ap (λ text. tokens (text ++ rest)) (text-Tuple []) ∙ tuple_token (125 ∷ rest) ∙ ap (More 1 k.OpenTuple) (brace_token rest));
-}
+tuple_written [] c n =
+    bracketed (t.Tuple []) 123 125 k.OpenTuple k.CloseBrace [] [] open_tuple close_tuple (text-Tuple []) (empty_tuple 1 1)
+    (tuple_allows 0 (depth_of (t.Tuple [])) [] (omega (arith, depth-Tuple [])) (nothing_allows 0)) (λ rest stop. refl)
 tuple_written (x ∷ all) c n =
     let items : List Term = bare (x ∷ all) in
-    let deep : ℕ = deepest (map depth_of items) in
     let w = all_written x all (sym (canonical-Tuple items) ∙ c) (sym (names-Tuple items) ∙ n) in
-    record {
-      ts = at 1 k.OpenTuple ∷ (w.ts ++ at 1 k.CloseBrace ∷ []);
-      spells = tuple 1 1 items w.ts w.spells;
-      allows = tuple_allows deep (depth_of (t.Tuple items)) w.ts (omega (arith, depth-Tuple items)) w.allows;
-      first = refl;
-      reads = (λ rest stop. ap (λ text. tokens (text ++ rest)) (text-Tuple items) ∙ tuple_reads (joined (map tree_of items)) w.ts w.reads rest);
-    }
+    bracketed (t.Tuple items) 123 125 k.OpenTuple k.CloseBrace (joined (map tree_of items)) w.ts open_tuple close_tuple (text-Tuple items) (tuple 1 1 items w.ts w.spells)
+    (tuple_allows (deepest (map depth_of items)) (depth_of (t.Tuple items)) w.ts (omega (arith, depth-Tuple items)) w.allows) w.reads
 
 all_are_written : (x : Term) → IsWritten x
 all_are_written = term_ind IsWritten int_written atom_written proper_written improper_written tuple_written

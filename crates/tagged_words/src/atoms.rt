@@ -10,7 +10,7 @@ use crate::addresses::MOST_ATOM_NUMBERS;
 use indexmap::IndexSet;
 use std::alloc::{AllocError, Global};
 use std::marker::Model;
-use term_tree::Name;
+use term_tree::{MOST_CHARACTERS, Name};
 
 /// The atoms that the machine itself makes.
 const FIRST_ATOMS: [&str; 14] = [
@@ -79,7 +79,7 @@ pub fn has_first_atoms(names: &[Name]) -> bool
 }
 
 fn add_text(alloc: Global, names: &mut IndexSet<Name>, text: &str) -> Result<(), AllocError>
-    requires { length text.now ≤ 255 }
+    requires { length text.now ≤ MOST_CHARACTERS }
     ensures { OnOk result (keys names.new ≡ with_atom (keys names.old) text.now) }
 {
     names.insert(Name::from_short(alloc, text)?)?;

@@ -1,34 +1,22 @@
 -- What is written with canonical tokens is canonical.
-use Rattle.std.proofs.Common.{◌≡◌, ℕ, ℤ, ◌<◌, Bool, true, false, ◌&&◌, not, List, [], ◌∷◌, ◌++◌, length, Option, Some, None, refl, sym, ap, ◌∙◌, nat_lt, arith}
+use Rattle.std.proofs.Common.{◌≡◌, ℕ, ◌<◌, Bool, true, false, List, [], ◌∷◌, ◌++◌, length, Option, Some, None, refl, sym, ap, ◌∙◌, arith}
 use Rattle.std.specs.List.{list_all}
+use Rattle.std.specs.Cmp.Derive.{both_true}
+use Rattle.std.proofs.lemmas.List.Folds.{list_all-append}
 use Rattle.std.proofs.lemmas.List.{length-append}
-use borrow.Author.Tests.{lt-ltb}
 use denote.Hole.Carrier.{roll}
 use Rattle.term_tree.specs.declared.term.Term as t
 use Rattle.term_tree.specs.declared.term.Term.{Term, fold-Term, fold-roll-Term, fold_out-Term, roll-Term, out-Term}
 use Rattle.term_tree.specs.declared.term.Term.TheOpen.{Term-F}
 use Rattle.term_tree.specs.Term.{is_canonical, is_list, layer_mark, Mark}
-use Rattle.term_tree.proofs.TermLaws.{canonical-Int, canonical-proper, canonical-Tuple, canonical-improper, improper_parts, both_hold}
+use Rattle.term_tree.proofs.TermLaws.{canonical-Int, canonical-proper, canonical-Tuple, improper_front, improper_parts, both_hold}
 use Rattle.text_tokens.specs.declared.token.Token.TheVariants as k
 use Rattle.text_tokens.specs.Tokens.{Lined, at}
-use Rattle.text_tokens.proofs.CanonicalLists.{both, list_all-joined, list_all-one}
 use Rattle.text_tokens.proofs.CanonicalTokens.{in_lined}
 use Rattle.text_forms.specs.declared.form.Form.{Form}
 use Rattle.text_forms.specs.Spelling.{stand_in, with_layer, with_tail, Phrase, One, Strings, Terms, Pairs, Spells, integer, atom, wide, float, strings, empty_tuple, tuple, empty_list, list, tail as tail_of, empty_map, map, one_string, more_strings, one_term, more_terms, one_pair, more_pairs, AreForms, no_forms, more_forms, AreArguments, no_arguments, some_arguments, first_line}
 
 -- ---- terms
-
-is_list-Int : (n : ℤ) → is_list (t.Int n) ≡ false
-unfolding roll-Term roll
-is_list-Int n = ap (λ m. m.is_list) (fold-roll-Term Mark layer_mark (Term-F.Int n))
-
-is_list-Atom : (a : List ℕ) → is_list (t.Atom a) ≡ false
-unfolding roll-Term roll
-is_list-Atom a = ap (λ m. m.is_list) (fold-roll-Term Mark layer_mark (Term-F.Atom a))
-
-is_list-Tuple : (all : List Term) → is_list (t.Tuple all) ≡ false
-unfolding roll-Term roll
-is_list-Tuple all = ap (λ m. m.is_list) (fold-roll-Term Mark layer_mark (Term-F.Tuple all))
 
 canonical-Atom : (a : List ℕ) → is_canonical (t.Atom a) ≡ true
 unfolding roll-Term roll
@@ -39,18 +27,14 @@ canonical-stand_in = canonical-Int _
 
 -- a list with a tail
 improper : (items : List Term) (tail : Term) → list_all is_canonical items ≡ true → 0 < length items → is_canonical tail ≡ true → is_list tail ≡ false → is_canonical (t.List items (Some tail)) ≡ true
-improper items tail all some fine plain =
-    canonical-improper items tail ∙ both (list_all is_canonical items && (is_canonical tail && not (is_list tail))) (nat_lt 0 (length items))
-    (both (list_all is_canonical items) (is_canonical tail && not (is_list tail)) all (both (is_canonical tail) (not (is_list tail)) fine (ap not plain)))
-    (lt-ltb 0 (length items) some)
+improper items tail all some fine plain = improper_front items tail (λ none. absurd (omega (arith, ap length none))) plain fine ∙ all
 
 -- a list whose tail is a list
 longer : (items more : List Term) (end : Option Term) → list_all is_canonical items ≡ true → is_canonical (t.List more end) ≡ true → is_canonical (t.List (items ++ more) end) ≡ true
-longer items more None all fine =
-    canonical-proper (items ++ more) ∙ list_all-joined is_canonical items more all (sym (canonical-proper more) ∙ fine)
+longer items more None all fine = canonical-proper (items ++ more) ∙ list_all-append is_canonical items more ∙ both_true all (sym (canonical-proper more) ∙ fine)
 longer items more (Some e) all fine =
     let parts = improper_parts more e fine in
-    improper (items ++ more) e (list_all-joined is_canonical items more all parts.front) (omega (arith, length-append items more, parts.some)) parts.tail parts.no_list
+    improper (items ++ more) e (list_all-append is_canonical items more ∙ both_true all parts.front) (omega (arith, length-append items more, parts.some)) parts.tail parts.no_list
 
 abbrev mark_of : Term → Mark
 mark_of x = fold-Term Mark layer_mark x
@@ -61,9 +45,9 @@ opened tail = fold_out-Term Mark layer_mark tail ∙ sym (fold-roll-Term Mark la
 with_layer-canonical : (items : List Term) (tail : Term) (y : Term-F Term) → mark_of tail ≡ mark_of (roll-Term y) →
     list_all is_canonical items ≡ true → 0 < length items → is_canonical tail ≡ true → is_canonical (with_layer items tail y) ≡ true
 unfolding roll-Term roll
-with_layer-canonical items tail (Term-F.Int n) e all some fine = improper items tail all some fine (ap (λ m. m.is_list) e ∙ is_list-Int n)
-with_layer-canonical items tail (Term-F.Atom a) e all some fine = improper items tail all some fine (ap (λ m. m.is_list) e ∙ is_list-Atom a)
-with_layer-canonical items tail (Term-F.Tuple parts) e all some fine = improper items tail all some fine (ap (λ m. m.is_list) e ∙ is_list-Tuple parts)
+with_layer-canonical items tail (Term-F.Int n) e all some fine = improper items tail all some fine (ap (λ m. m.is_list) (e ∙ fold-roll-Term Mark layer_mark (Term-F.Int n)))
+with_layer-canonical items tail (Term-F.Atom a) e all some fine = improper items tail all some fine (ap (λ m. m.is_list) (e ∙ fold-roll-Term Mark layer_mark (Term-F.Atom a)))
+with_layer-canonical items tail (Term-F.Tuple parts) e all some fine = improper items tail all some fine (ap (λ m. m.is_list) (e ∙ fold-roll-Term Mark layer_mark (Term-F.Tuple parts)))
 with_layer-canonical items tail (Term-F.List more end) e all some fine = longer items more end all (sym (ap (λ m. m.fine) e) ∙ fine)
 
 with_tail-canonical : (items : List Term) (tail : Term) → list_all is_canonical items ≡ true → 0 < length items → is_canonical tail ≡ true → is_canonical (with_tail items tail) ≡ true
@@ -72,11 +56,7 @@ with_tail-canonical items tail all some fine = with_layer-canonical items tail (
 -- ---- phrases
 
 parts_of : {A : Type 0} (p : A → Bool) (xs ys : List A) → list_all p (xs ++ ys) ≡ true → (list_all p xs ≡ true) × (list_all p ys ≡ true)
-parts_of p [] ys e = (refl, e)
-parts_of p (x ∷ xs) ys e =
-    let one = both_hold (p x) (list_all p (xs ++ ys)) e in
-    let more = parts_of p xs ys one.1 in
-    (both (p x) (list_all p xs) one.0 more.0, more.1)
+parts_of p xs ys e = both_hold (list_all p xs) (list_all p ys) (sym (list_all-append p xs ys) ∙ e)
 
 abbrev Fine : Phrase → Type 0
 Fine (One term) = is_canonical term ≡ true
@@ -104,12 +84,12 @@ canonical _ _ (map line end ts d) e = canonical-stand_in
 canonical _ _ (one_string line codes) e = (both_hold (list_all is_canonical codes) true e).0
 canonical _ _ (more_strings line codes more ts d) e =
     let parts = parts_of in_lined ts (at line (k.Text more) ∷ []) e in
-    list_all-joined is_canonical codes more (canonical (Strings codes) ts d parts.0) ((both_hold (list_all is_canonical more) true parts.1).0)
-canonical _ _ (one_term term ts d) e = (both (is_canonical term) true (canonical (One term) ts d e) refl, omega arith)
+    list_all-append is_canonical codes more ∙ both_true (canonical (Strings codes) ts d parts.0) (both_hold (list_all is_canonical more) true parts.1).0
+canonical _ _ (one_term term ts d) e = (both_true (canonical (One term) ts d e) refl, omega arith)
 canonical _ _ (more_terms line all ts term us d f) e =
     let parts = parts_of in_lined (ts ++ at line k.Comma ∷ []) us e in
     let front = canonical (Terms all) ts d (parts_of in_lined ts (at line k.Comma ∷ []) parts.0).0 in
-    (list_all-one is_canonical all term front.0 (canonical (One term) us f parts.1), omega (arith, length-append all (term ∷ [])))
+    (list_all-append is_canonical all (term ∷ []) ∙ both_true front.0 (both_true (canonical (One term) us f parts.1) refl), omega (arith, length-append all (term ∷ [])))
 canonical _ _ (one_pair line key value ts us d f) e = tt
 canonical _ _ (more_pairs comma line key value ts us vs d f g) e = tt
 
@@ -117,8 +97,8 @@ pub canonical_forms : (forms : List Form) (ts : List Lined) → AreForms forms t
 canonical_forms _ _ no_forms e = refl
 canonical_forms _ _ (more_forms forms ts term us dot d f) e =
     let parts = parts_of in_lined ts (us ++ at dot k.Dot ∷ []) e in
-    list_all-one (λ form. is_canonical form.term) forms (record { line = first_line us; term = term }) (canonical_forms forms ts d parts.0)
-    (canonical (One term) us f (parts_of in_lined us (at dot k.Dot ∷ []) parts.1).0)
+    list_all-append (λ form. is_canonical form.term) forms (record { line = first_line us; term = term } ∷ [])
+    ∙ both_true (canonical_forms forms ts d parts.0) (both_true (canonical (One term) us f (parts_of in_lined us (at dot k.Dot ∷ []) parts.1).0) refl)
 
 pub canonical_arguments : (all : List Term) (ts : List Lined) → AreArguments all ts → list_all in_lined ts ≡ true → list_all is_canonical all ≡ true
 canonical_arguments _ _ (no_arguments line end) e = refl

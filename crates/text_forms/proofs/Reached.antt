@@ -8,7 +8,6 @@ use Rattle.text_tokens.specs.Tokens.{Lined, at}
 use Rattle.text_forms.specs.declared.place.Open.{Open}
 use Rattle.text_forms.specs.declared.place.Open.TheVariants as o
 use Rattle.text_forms.specs.declared.place.Last.{Last}
-use Rattle.text_forms.specs.declared.place.Last.TheVariants as l
 use Rattle.text_forms.specs.declared.place.Place.{Place}
 use Rattle.text_forms.specs.declared.place.Stand.{Stand}
 use Rattle.text_forms.specs.Spelling.{One, Spells, AreForms, no_forms, more_forms, first_line}
@@ -16,7 +15,7 @@ use Rattle.text_forms.specs.Places.{is_dot, since_dot, refused_after, AllAllowed
 use Rattle.text_forms.specs.Moves.{place, move, dot_term}
 use Rattle.text_forms.specs.Steps.{first_place, before, moved, given, does}
 use Rattle.text_forms.proofs.Follow.{goes, then_follow, one_follows, Mapped, mapped}
-use Rattle.text_forms.proofs.Here.{Here, Led, led_form, led_arguments, led_list, deeper, Family, OfForm, Before, in_form, waits, before_list, Ended, ended, here_on}
+use Rattle.text_forms.proofs.Here.{Here, Led, led_form, led_arguments, led_list, deeper, Family, OfForm, waits, before_list, content_of, here_on}
 use Rattle.text_forms.proofs.Tracks.{Tracks, since_more, tracks_moved, tracks_given}
 
 -- the construct outside all brackets
@@ -36,7 +35,7 @@ pub record Reached (arguments : Bool) (done : List Lined) (s : Stand) : Type 0 w
 
 start_here : (arguments : Bool) → Here arguments (first_place (root arguments)) []
 start_here true = record { front = []; inside = []; whole = refl; led = led_arguments refl; has = before_list }
-start_here false = record { front = []; inside = []; whole = refl; led = led_form refl; has = waits o.Form l.Mark [] in_form }
+start_here false = record { front = []; inside = []; whole = refl; led = led_form refl; has = waits o.Form [] refl (λ term us d. d) }
 
 pub reached_start : (arguments : Bool) → Reached arguments [] (before (root arguments) [])
 reached_start arguments = record {
@@ -69,12 +68,6 @@ dot_is : (token : Token) → is_dot token ≡ true → token ≡ k.Dot
 dot_is k.Dot e = refl
 dot_is other e = absurd (cc)
 
-pub form_spells : (term : Term) (all : List Lined) → Ended o.Form term all → Spells (One term) all
-form_spells term all x = go x.last x.ts x.before x.whole
-  where
-    go : (last : Last) (ts : List Lined) → Before o.Form last ts → ts ++ x.us ≡ all → Spells (One term) all
-    go _ _ in_form whole = let P : List Lined → Type 0 = λ us. Spells (One term) us in subst P whole x.spells
-
 -- what a dot ends
 record Dotted (arguments : Bool) (outer : List Open) (all : List Lined) (term : Term) : Type 0 where
   outside : outer ≡ []
@@ -85,12 +78,12 @@ dotted_in : (arguments : Bool) (outer : List Open) (f : Family) (front inside al
 dotted_in arguments _ _ _ inside all term (led_form e) same whole d = record { outside = refl; form = e; spells = let P : List Lined → Type 0 = λ us. Spells (One term) us in subst P whole d }
 dotted_in arguments _ _ _ inside all term (led_arguments e) same whole d = absurd (cc)
 dotted_in arguments _ _ _ inside all term (led_list line e) same whole d = absurd (cc)
-dotted_in arguments _ _ _ inside all term (deeper outer line token last ts us led before) same whole d = absurd (cc)
+dotted_in arguments _ _ _ inside all term (deeper outer line token ts us led opens) same whole d = absurd (cc)
 
 dotted : (arguments : Bool) (outer : List Open) (inner : Open) (last : Last) (all : List Lined) (term : Term) → Here arguments (place outer inner last) all → dot_term (place outer inner last) ≡ Some term →
     Dotted arguments outer all term
 dotted arguments outer o.Form last all term h e =
-    dotted_in arguments outer OfForm h.front h.inside all term h.led refl h.whole (form_spells term h.inside (ended o.Form last h.inside term h.has refl e))
+    dotted_in arguments outer OfForm h.front h.inside all term h.led refl h.whole (content_of o.Form last h.inside term h.has e)
 dotted arguments outer other last all term h e = absurd (cc)
 
 -- ---- one token more
@@ -128,7 +121,7 @@ given_on arguments done s a term r fine dot e is =
       whole = ap (λ ts. (done ++ a ∷ []) ++ ts) since ∙ append-nil (done ++ a ∷ []);
       forms = subst Q (sym r.tracks.line) (subst P joins forms);
       alone = (λ h. let no : true ≡ false = sym h ∙ d.form in absurd (cc));
-      here = subst H (sym since) (record { front = []; inside = []; whole = refl; led = led_form d.form; has = waits o.Form l.Mark [] in_form });
+      here = subst H (sym since) (record { front = []; inside = []; whole = refl; led = led_form d.form; has = waits o.Form [] refl (λ term us d. d) });
       tracks = tracks_given done s a (s.forms ++ record { line = s.line; term = term } ∷ []) dot r.tracks d.outside;
       allowed = allowed_more [] done a r.allowed fine;
       ran = then_follow does (before (root arguments) []) s (given s term) done (a ∷ []) r.ran (one_follows does s (given s term) a e);

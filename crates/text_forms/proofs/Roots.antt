@@ -25,10 +25,10 @@ use Rattle.text_forms.specs.Moves.{last_term, place, move, begun, left, proper}
 use Rattle.text_forms.specs.Steps.{looseness_after, first_place, before, moved, given, does, whole_forms, whole_arguments, items_at, proper_items}
 use Rattle.text_forms.proofs.Follow.{goes_from, moves, goes, then_follow, one_follows, first_follows, Chained, chained}
 use Rattle.text_forms.proofs.Written.{ToTerm, ToTerms, all_last, leads}
-use Rattle.text_forms.proofs.Here.{Led, led_form, led_arguments, led_list, deeper, Family, OfArguments, family, Inside, waits, has_term, has_text, before_list, listed}
+use Rattle.text_forms.proofs.Here.{family, Inside, content_of}
 use Rattle.text_forms.proofs.Tracks.{is_start, line_kept, has_begun, looseness_of, begun_of}
 use Rattle.text_forms.proofs.Reached.{Reached, root}
-use Rattle.text_forms.proofs.Leading.{begins_forms, begins_arguments}
+use Rattle.text_forms.proofs.Leading.{root_of, begins_forms, begins_arguments}
 
 -- what a root is proved of: whatever is written leads to it, whatever leads to it is written, and all tokens that lead
 -- anywhere begin a text
@@ -149,35 +149,19 @@ arguments_go all ts d = go ts (arguments_move all ts d)
         let on : Begun [] o.Arguments (place [] o.Arguments (l.Term (t.List all None))) (a ∷ ts) = begins_with [] o.Arguments (place [] o.Arguments (l.Term (t.List all None))) a ts e in
         (stand [] (place [] o.Arguments (l.Term (t.List all None))) on.looseness a.line, on.goes, list_items all)
 
--- what stands outside all brackets of arguments
-outside_in : (outer : List Open) (f : Family) (front : List Lined) → Led true outer f front → f ≡ OfArguments → front ≡ []
-outside_in _ _ _ (led_form e) same = refl
-outside_in _ _ _ (led_arguments e) same = refl
-outside_in _ _ _ (led_list line e) same = absurd (cc)
-outside_in _ _ _ (deeper outer line token last ts us led before) same = absurd (cc)
-
 arguments_in : (inner : Open) (last : Last) (inside : List Lined) (all : List Term) → Inside inner last inside → items_at inner last ≡ Some all → (inner ≡ o.Arguments) × AreArguments all inside
-arguments_in o.Arguments (l.Term term) inside all has e = (refl, go (l.Term term) inside refl has)
-  where
-    listed_as : (terms : List Term) (ts : List Lined) → AreArguments terms ts → term ≡ t.List terms None → AreArguments all ts
-    listed_as terms ts d same =
-        let items : Some terms ≡ Some all = sym (list_items terms) ∙ ap (λ x. proper_items (out-Term x)) (sym same) ∙ e in
-        let equal : terms ≡ all = cc in
-        let P : List Term → Type 0 = λ is. AreArguments is ts in
-        subst P equal d
-
-    go : (last : Last) (ts : List Lined) → last ≡ l.Term term → Inside o.Arguments last ts → AreArguments all ts
-    go _ _ same (waits _ last ts before) = elim before [ ]
-    go _ _ same (has_term _ last ts other us before d) = elim before [ ]
-    go _ _ same (has_text _ last ts codes us before d) = elim before [ ]
-    go _ _ same before_list = absurd (cc)
-    go _ _ same (listed terms ts d) = listed_as terms ts d cc
+arguments_in o.Arguments (l.Term term) inside all has e =
+    let c = content_of o.Arguments (l.Term term) inside term has refl in
+    let items : Some c.0 ≡ Some all = sym (list_items c.0) ∙ ap (λ x. proper_items (out-Term x)) (sym c.1) ∙ e in
+    let equal : c.0 ≡ all = cc in
+    let P : List Term → Type 0 = λ is. AreArguments is inside in
+    (refl, subst P equal c.2)
 arguments_in inner last inside all has e = absurd (cc)
 
 arguments_come : (done : List Lined) (s : Stand) (all : List Term) → Reached true done s → whole_arguments s ≡ Some all → AreArguments all done
 arguments_come done s all r e =
     let is = arguments_in s.place.inner s.place.last r.here.inside all r.here.has e in
-    let front : r.here.front ≡ [] = outside_in s.place.outer (family s.place.inner) r.here.front r.here.led (ap family is.0) in
+    let front : r.here.front ≡ [] = (root_of true s.place.outer (family s.place.inner) r.here.front r.here.led (ap family is.0)).0 in
     let whole : r.here.inside ≡ done = ap (λ ts. ts ++ r.here.inside) (sym front) ∙ r.here.whole ∙ ap (λ ts. ts ++ since_dot [] done) (sym (r.alone refl)) ∙ r.whole in
     let P : List Lined → Type 0 = λ ts. AreArguments all ts in
     subst P whole is.1

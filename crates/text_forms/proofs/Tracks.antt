@@ -9,6 +9,8 @@ use Rattle.text_tokens.specs.declared.token.Token.TheVariants as k
 use Rattle.text_tokens.specs.Tokens.{Lined}
 use Rattle.text_forms.specs.declared.form.Form.{Form}
 use Rattle.text_forms.specs.declared.place.Brackets.TheVariants as b
+use Rattle.text_forms.specs.declared.place.Mark.{Mark}
+use Rattle.text_forms.specs.declared.place.Mark.TheVariants as m
 use Rattle.text_forms.specs.declared.place.Open.{Open}
 use Rattle.text_forms.specs.declared.place.Open.TheVariants as o
 use Rattle.text_forms.specs.declared.place.Last.{Last}
@@ -19,7 +21,7 @@ use Rattle.text_forms.specs.declared.place.Place.{Place}
 use Rattle.text_forms.specs.declared.place.Stand.{Stand}
 use Rattle.text_forms.specs.Spelling.{stand_in, first_line}
 use Rattle.text_forms.specs.Places.{is_dot, is_brace, is_percent, is_comma, since_dot, begins_loosely, is_loose_after, opened, open_after, refused_itself, refused_after}
-use Rattle.text_forms.specs.Moves.{wants_term, last_term, place, begun, left, marked, move, after_term, after_text, after_open, after_open_list, after_mark, comma_after, bar_after, arrow_after, brace_value, bracket_value, around}
+use Rattle.text_forms.specs.Moves.{wants_term, last_term, place, begun, left, marked, move, after_term, after_text, after_open, after_open_list, after_mark, mark_after, brace_value, bracket_value, around}
 use Rattle.text_forms.specs.Steps.{is_loose, looseness_after, form_line, before, moved}
 use Rattle.text_forms.proofs.Follow.{mapped, passed}
 
@@ -35,57 +37,51 @@ open_more count (b ∷ ts) a = open_more (opened count b.token) ts a
 
 -- ---- looseness
 
-abbrev by_three : Bool → Bool → Bool → Looseness
-by_three one two three = if one then (if two then (if three then places.Loose else places.Strict) else places.Strict) else places.Strict
+-- after further tokens of a form
+abbrev pub looseness_from : Looseness → List Lined → Looseness
+looseness_from p [] = p
+looseness_from p (a ∷ ts) = looseness_from (looseness_after p a.token) ts
 
--- of the tokens of a form so far
 abbrev pub looseness_of : List Lined → Looseness
-looseness_of [] = places.Start
-looseness_of (a ∷ []) = if is_brace a.token then places.Brace else places.Strict
-looseness_of (a ∷ b ∷ []) = if is_brace a.token then (if is_percent b.token then places.Percent else places.Strict) else places.Strict
-looseness_of (a ∷ b ∷ c ∷ ts) = by_three (is_brace a.token) (is_percent b.token) (is_comma c.token)
+looseness_of form = looseness_from places.Start form
 
-looseness_more : (form : List Lined) (a : Lined) → looseness_of (form ++ a ∷ []) ≡ looseness_after (looseness_of form) a.token
-looseness_more [] a = refl
-looseness_more (b ∷ []) a = go (is_brace b.token)
-  where
-    go : (one : Bool) → (if one then (if is_percent a.token then places.Percent else places.Strict) else places.Strict) ≡ looseness_after (if one then places.Brace else places.Strict) a.token
-    go true = refl
-    go false = refl
-looseness_more (b ∷ c ∷ []) a = go (is_brace b.token) (is_percent c.token)
-  where
-    go : (one two : Bool) → by_three one two (is_comma a.token) ≡ looseness_after (if one then (if two then places.Percent else places.Strict) else places.Strict) a.token
-    go true true = refl
-    go true false = refl
-    go false two = refl
-looseness_more (b ∷ c ∷ d ∷ ts) a = go (is_brace b.token) (is_percent c.token) (is_comma d.token)
-  where
-    go : (one two three : Bool) → by_three one two three ≡ looseness_after (by_three one two three) a.token
-    go true true true = refl
-    go true true false = refl
-    go true false three = refl
-    go false two three = refl
+looseness_more : (p : Looseness) (form : List Lined) (a : Lined) → looseness_from p (form ++ a ∷ []) ≡ looseness_after (looseness_from p form) a.token
+looseness_more p [] a = refl
+looseness_more p (b ∷ ts) a = looseness_more (looseness_after p b.token) ts a
+
+stays_strict : (ts : List Lined) → is_loose (looseness_from places.Strict ts) ≡ false
+stays_strict [] = refl
+stays_strict (a ∷ ts) = stays_strict ts
+
+stays_loose : (ts : List Lined) → is_loose (looseness_from places.Loose ts) ≡ true
+stays_loose [] = refl
+stays_loose (a ∷ ts) = stays_loose ts
+
+third : (three : Bool) (ts : List Lined) → is_loose (looseness_from (if three then places.Loose else places.Strict) ts) ≡ three
+third true ts = stays_loose ts
+third false ts = stays_strict ts
+
+second : (two : Bool) (c : Lined) (ts : List Lined) → is_loose (looseness_from (if two then places.Percent else places.Strict) (c ∷ ts)) ≡ two && is_comma c.token
+second true c ts = third (is_comma c.token) ts
+second false c ts = stays_strict ts
+
+first : (one : Bool) (b c : Lined) (ts : List Lined) → is_loose (looseness_from (if one then places.Brace else places.Strict) (b ∷ c ∷ ts)) ≡ one && (is_percent b.token && is_comma c.token)
+first true b c ts = second (is_percent b.token) c ts
+first false b c ts = stays_strict ts
+
+strict_if : (test : Bool) (p : Looseness) → is_loose p ≡ false → is_loose (if test then p else places.Strict) ≡ false
+strict_if true p e = e
+strict_if false p e = refl
+
+one_of : (one : Bool) (b : Lined) → is_loose (looseness_after (if one then places.Brace else places.Strict) b.token) ≡ false
+one_of true b = strict_if (is_percent b.token) places.Percent refl
+one_of false b = refl
 
 pub loose_of : (form : List Lined) → is_loose (looseness_of form) ≡ begins_loosely form
 loose_of [] = refl
-loose_of (a ∷ []) = go (is_brace a.token)
-  where
-    go : (one : Bool) → is_loose (if one then places.Brace else places.Strict) ≡ false
-    go true = refl
-    go false = refl
-loose_of (a ∷ b ∷ []) = go (is_brace a.token) (is_percent b.token)
-  where
-    go : (one two : Bool) → is_loose (if one then (if two then places.Percent else places.Strict) else places.Strict) ≡ false
-    go true true = refl
-    go true false = refl
-    go false two = refl
-loose_of (a ∷ b ∷ c ∷ ts) = go (is_brace a.token) (is_percent b.token) (is_comma c.token)
-  where
-    go : (one two three : Bool) → is_loose (by_three one two three) ≡ one && (two && three)
-    go true true true = refl
-    go true true false = refl
-    go true false three = refl
-    go false two three = refl
+loose_of (a ∷ []) = strict_if (is_brace a.token) places.Brace refl
+loose_of (a ∷ b ∷ []) = one_of (is_brace a.token) b
+loose_of (a ∷ b ∷ c ∷ ts) = first (is_brace a.token) b c ts
 
 -- whether the form has no token yet
 abbrev pub is_start : Looseness → Bool
@@ -110,19 +106,12 @@ has_begun places.Percent token = if_no_start (is_comma token) places.Loose refl
 has_begun places.Loose token = refl
 has_begun places.Strict token = refl
 
+begun_from : (p : Looseness) (ts : List Lined) → is_start p ≡ false → is_start (looseness_from p ts) ≡ false
+begun_from p [] e = e
+begun_from p (a ∷ ts) e = begun_from (looseness_after p a.token) ts (has_begun p a.token)
+
 pub begun_of : (a : Lined) (ts : List Lined) → is_start (looseness_of (a ∷ ts)) ≡ false
-begun_of a [] = if_no_start (is_brace a.token) places.Brace refl
-begun_of a (b ∷ []) = go (is_brace a.token)
-  where
-    go : (one : Bool) → is_start (if one then (if is_percent b.token then places.Percent else places.Strict) else places.Strict) ≡ false
-    go true = if_no_start (is_percent b.token) places.Percent refl
-    go false = refl
-begun_of a (b ∷ c ∷ ts) = go (is_brace a.token) (is_percent b.token)
-  where
-    go : (one two : Bool) → is_start (by_three one two (is_comma c.token)) ≡ false
-    go true true = if_no_start (is_comma c.token) places.Loose refl
-    go true false = refl
-    go false two = refl
+begun_of a ts = begun_from (looseness_after places.Start a.token) ts (has_begun places.Start a.token)
 
 line_more : (form : List Lined) (a : Lined) → form_line (looseness_of form) (first_line form) a.line ≡ first_line (form ++ a ∷ [])
 line_more [] a = refl
@@ -152,8 +141,8 @@ open_list_count outer o.Arguments l.Mark q e = begun_count (place outer o.Argume
 open_list_count outer o.Arguments last q e = absurd (cc)
 open_list_count outer inner last q e = open_count (place outer inner last) q (o.Terms b.List []) e
 
-mark_count : (mark : Open → Term → Option Open) (p q : Place) → after_mark mark p ≡ Some q → length q.outer ≡ length p.outer
-mark_count mark p q e = ap (λ r. length r.outer) (sym ((mapped (marked p) (option_and_then (mark p.inner) (last_term p.last)) q e).same))
+mark_count : (mark : Mark) (p q : Place) → after_mark mark p ≡ Some q → length q.outer ≡ length p.outer
+mark_count mark p q e = ap (λ r. length r.outer) (sym ((mapped (marked p) (option_and_then (mark_after mark p.inner) (last_term p.last)) q e).same))
 
 left_count : (p q : Place) (found : Option Term) → option_map (left p) found ≡ Some q → length q.outer ≡ length p.outer - 1
 left_count p q found e = ap (λ r. length r.outer) (sym ((mapped (left p) found q e).same)) ∙ few p.outer
@@ -169,9 +158,9 @@ move_count p q k.OpenList e = open_list_count p.outer p.inner p.last q e
 move_count p q k.OpenMap e = open_count p q o.Key e
 move_count p q k.CloseBrace e = left_count p q (brace_value p.inner p.last) e
 move_count p q k.CloseBracket e = left_count p q (bracket_value p.inner p.last) e
-move_count p q k.Comma e = mark_count comma_after p q e
-move_count p q k.Bar e = mark_count bar_after p q e
-move_count p q k.Arrow e = mark_count arrow_after p q e
+move_count p q k.Comma e = mark_count m.Comma p q e
+move_count p q k.Bar e = mark_count m.Bar p q e
+move_count p q k.Arrow e = mark_count m.Arrow p q e
 move_count p q k.Dot e = absurd (cc)
 
 -- ---- what a stand keeps
@@ -191,7 +180,7 @@ pub tracks_moved : (done : List Lined) (s : Stand) (a : Lined) (q : Place) → i
 tracks_moved done s a q plain tracks e =
     let since : since_dot [] (done ++ a ∷ []) ≡ since_dot [] done ++ a ∷ [] = since_more [] done a ∙ ap (λ (dot : Bool). if dot then [] else since_dot [] done ++ a ∷ []) plain in
     record {
-      loose = ap (λ p. looseness_after p a.token) tracks.loose ∙ sym (looseness_more (since_dot [] done) a) ∙ ap looseness_of (sym since);
+      loose = ap (λ p. looseness_after p a.token) tracks.loose ∙ sym (looseness_more places.Start (since_dot [] done) a) ∙ ap looseness_of (sym since);
       line = ap (λ p. form_line p s.line a.line) tracks.loose ∙ ap (λ n. form_line (looseness_of (since_dot [] done)) n a.line) tracks.line ∙ line_more (since_dot [] done) a ∙ ap first_line (sym since);
       count = move_count s.place q a.token e ∙ ap (λ n. opened n a.token) tracks.count ∙ sym (open_more 0 done a);
     }

@@ -1,5 +1,5 @@
 -- What is written as a phrase leads to it.
-use Rattle.std.proofs.Common.{◌≡◌, ℕ, true, ◌&&◌, List, [], ◌∷◌, ◌++◌, Option, Some, None, refl, ap, ◌∙◌, if◌then◌else◌}
+use Rattle.std.proofs.Common.{◌≡◌, ℕ, true, ◌&&◌, List, [], ◌∷◌, ◌++◌, Some, None, refl, ap, ◌∙◌, if◌then◌else◌}
 use Rattle.std.specs.Prelude.{option_and_then, option_map}
 use Rattle.term_tree.specs.declared.term.Term as t
 use Rattle.term_tree.specs.declared.term.Term.{Term}
@@ -7,13 +7,15 @@ use Rattle.text_tokens.specs.declared.token.Token.TheVariants as k
 use Rattle.text_tokens.specs.Tokens.{Lined, at}
 use Rattle.text_forms.specs.declared.place.Brackets.{Brackets}
 use Rattle.text_forms.specs.declared.place.Brackets.TheVariants as b
+use Rattle.text_forms.specs.declared.place.Mark.{Mark}
+use Rattle.text_forms.specs.declared.place.Mark.TheVariants as m
 use Rattle.text_forms.specs.declared.place.Open.{Open}
 use Rattle.text_forms.specs.declared.place.Open.TheVariants as o
 use Rattle.text_forms.specs.declared.place.Last.{Last}
 use Rattle.text_forms.specs.declared.place.Last.TheVariants as l
 use Rattle.text_forms.specs.declared.place.Place.{Place}
 use Rattle.text_forms.specs.Spelling.{stand_in, with_tail, Phrase, One, Strings, Terms, Pairs, Spells, integer, atom, wide, float, strings, empty_tuple, tuple, empty_list, list, tail, empty_map, map, one_string, more_strings, one_term, more_terms, one_pair, more_pairs}
-use Rattle.text_forms.specs.Moves.{takes_terms, is_free, last_term, all_terms, place, begun, left, marked, move, comma_after, bar_after, arrow_after, proper, of_map}
+use Rattle.text_forms.specs.Moves.{takes_terms, is_free, last_term, all_terms, place, begun, left, marked, move, mark_after, proper, of_map}
 use Rattle.text_forms.proofs.Follow.{moves, goes_from, then_follow, one_follows, first_follows, left-pushed}
 
 pub wanted : {A : Type 0} (inner : Open) (last : Last) (a : A) → takes_terms inner ≡ true → is_free last ≡ true → (if is_free last && takes_terms inner then Some a else None) ≡ Some a
@@ -78,19 +80,19 @@ strings_go line codes more ts ih outer inner last takes free =
     (ih outer inner last takes free) refl
 
 -- a mark after a term
-mark_goes : (mark : Open → Term → Option Open) (a : Lined) → ((p : Place) → move p a.token ≡ option_map (marked p) (option_and_then (mark p.inner) (last_term p.last))) →
-    (outer : List Open) (inner next : Open) (last : Last) (term : Term) → last_term last ≡ Some term → mark inner term ≡ Some next →
+mark_goes : (mark : Mark) (a : Lined) → ((p : Place) → move p a.token ≡ option_map (marked p) (option_and_then (mark_after mark p.inner) (last_term p.last))) →
+    (outer : List Open) (inner next : Open) (last : Last) (term : Term) → last_term last ≡ Some term → mark_after mark inner term ≡ Some next →
     moves (place outer inner last) (a ∷ []) ≡ Some (place outer next l.Mark)
 mark_goes mark a e outer inner next last term is goes =
     one_follows goes_from (place outer inner last) (place outer next l.Mark) a
-    (e (place outer inner last) ∙ ap (λ found. option_map (marked (place outer inner last)) (option_and_then (mark inner) found)) is ∙ ap (option_map (marked (place outer inner last))) goes)
+    (e (place outer inner last) ∙ ap (λ found. option_map (marked (place outer inner last)) (option_and_then (mark_after mark inner) found)) is ∙ ap (option_map (marked (place outer inner last))) goes)
 
-comma_goes : (line : ℕ) (outer : List Open) (inner next : Open) (last : Last) (term : Term) → last_term last ≡ Some term → comma_after inner term ≡ Some next →
+comma_goes : (line : ℕ) (outer : List Open) (inner next : Open) (last : Last) (term : Term) → last_term last ≡ Some term → mark_after m.Comma inner term ≡ Some next →
     moves (place outer inner last) (at line k.Comma ∷ []) ≡ Some (place outer next l.Mark)
-comma_goes line = mark_goes comma_after (at line k.Comma) (λ p. refl)
+comma_goes line = mark_goes m.Comma (at line k.Comma) (λ p. refl)
 
 arrow_goes : (line : ℕ) (outer : List Open) (last : Last) (key : Term) → last_term last ≡ Some key → moves (place outer o.Key last) (at line k.Arrow ∷ []) ≡ Some (place outer o.Value l.Mark)
-arrow_goes line outer last key is = mark_goes arrow_after (at line k.Arrow) (λ p. refl) outer o.Key o.Value last key is refl
+arrow_goes line outer last key is = mark_goes m.Arrow (at line k.Arrow) (λ p. refl) outer o.Key o.Value last key is refl
 
 -- an opening bracket
 list_opens : (p : Place) → takes_terms p.inner ≡ true → is_free p.last ≡ true → move p k.OpenList ≡ Some (begun p (o.Terms b.List []))
@@ -136,7 +138,7 @@ tail_goes line bar end all ts behind us ih more outer inner last takes free =
     let r : ToTerms os b.List ts all = ih os b.List in
     let q : ToTerm os (o.Tail all) l.Mark us behind = more os (o.Tail all) l.Mark refl refl in
     let mark : moves (place os (o.Terms b.List r.items) r.end) (at bar k.Bar ∷ []) ≡ Some (place os (o.Tail all) l.Mark) =
-    mark_goes bar_after (at bar k.Bar) (λ p. refl) os (o.Terms b.List r.items) (o.Tail all) r.end r.term r.is (ap (λ is. Some (o.Tail is)) r.whole) in
+    mark_goes m.Bar (at bar k.Bar) (λ p. refl) os (o.Terms b.List r.items) (o.Tail all) r.end r.term r.is (ap (λ is. Some (o.Tail is)) r.whole) in
     bracket_goes (at line k.OpenList) (at end k.CloseBracket) (o.Terms b.List []) ((ts ++ at bar k.Bar ∷ []) ++ us) (with_tail all behind) outer inner last list_opens takes free (o.Tail all) q.end
     (then_follow goes_from (place os (o.Terms b.List []) l.Bracket) (place os (o.Tail all) l.Mark) (place os (o.Tail all) q.end) (ts ++ at bar k.Bar ∷ []) us
     (then_follow goes_from (place os (o.Terms b.List []) l.Bracket) (place os (o.Terms b.List r.items) r.end) (place os (o.Tail all) l.Mark) ts (at bar k.Bar ∷ []) r.goes mark) q.goes)

@@ -4,7 +4,10 @@ use Rattle.term_tree.specs.declared.term.Term as t
 use Rattle.term_tree.specs.declared.term.Term.{Term}
 use Rattle.text_tokens.specs.declared.token.Token.{Token}
 use Rattle.text_tokens.specs.declared.token.Token.TheVariants as k
+use Rattle.text_forms.specs.declared.place.Brackets.{Brackets}
 use Rattle.text_forms.specs.declared.place.Brackets.TheVariants as b
+use Rattle.text_forms.specs.declared.place.Mark.{Mark}
+use Rattle.text_forms.specs.declared.place.Mark.TheVariants as m
 use Rattle.text_forms.specs.declared.place.Open.{Open}
 use Rattle.text_forms.specs.declared.place.Open.TheVariants as o
 use Rattle.text_forms.specs.declared.place.Last.{Last}
@@ -71,25 +74,23 @@ after_first p = elim p.last [ l.Mark ↦ Some (begun p (o.Terms b.Arguments []))
 abbrev pub after_open_list : Place → Option Place
 after_open_list p = elim p.inner [ o.Arguments ↦ after_first p | _ ↦ after_open p (o.Terms b.List []) ]
 
--- `,`, `|` and `=>` after a term
-abbrev pub comma_after : Open → Term → Option Open
-comma_after (o.Terms kind items) term = Some (o.Terms kind (items ++ term ∷ []))
-comma_after o.Value term = Some o.Key
-comma_after other term = None
+-- `,`, `|` and `=>` after a term: brackets with these terms, and any construct
+abbrev pub terms_marked : Mark → Brackets → List Term → Option Open
+terms_marked m.Comma kind items = Some (o.Terms kind items)
+terms_marked m.Bar b.List items = Some (o.Tail items)
+terms_marked other kind items = None
 
-abbrev pub bar_after : Open → Term → Option Open
-bar_after (o.Terms b.List items) term = Some (o.Tail (items ++ term ∷ []))
-bar_after other term = None
-
-abbrev pub arrow_after : Open → Term → Option Open
-arrow_after o.Key term = Some o.Value
-arrow_after other term = None
+abbrev pub mark_after : Mark → Open → Term → Option Open
+mark_after mark (o.Terms kind items) term = terms_marked mark kind (items ++ term ∷ [])
+mark_after m.Arrow o.Key term = Some o.Value
+mark_after m.Comma o.Value term = Some o.Key
+mark_after mark other term = None
 
 abbrev pub marked : Place → Open → Place
 marked p inner = place p.outer inner l.Mark
 
-abbrev pub after_mark : (Open → Term → Option Open) → Place → Option Place
-after_mark goes p = option_map (marked p) (option_and_then (goes p.inner) (last_term p.last))
+abbrev pub after_mark : Mark → Place → Option Place
+after_mark mark p = option_map (marked p) (option_and_then (mark_after mark p.inner) (last_term p.last))
 
 -- the terms that `}` and `]` end
 abbrev pub proper : List Term → Term
@@ -132,9 +133,9 @@ move p k.OpenList = after_open_list p
 move p k.OpenMap = after_open p o.Key
 move p k.CloseBrace = option_map (left p) (brace_value p.inner p.last)
 move p k.CloseBracket = option_map (left p) (bracket_value p.inner p.last)
-move p k.Comma = after_mark comma_after p
-move p k.Bar = after_mark bar_after p
-move p k.Arrow = after_mark arrow_after p
+move p k.Comma = after_mark m.Comma p
+move p k.Bar = after_mark m.Bar p
+move p k.Arrow = after_mark m.Arrow p
 move p k.Dot = None
 
 -- the term that a dot ends

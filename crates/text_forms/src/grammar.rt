@@ -3,7 +3,7 @@ ghost use Rattle.text_forms.specs.Spelling as spelling;
 ghost use Rattle.text_forms.specs.Moves as moves;
 ghost use Rattle.text_forms.specs.InPlace.{kept};
 
-use crate::place::{Brackets, Last, Open, Place};
+use crate::place::{Brackets, Last, Mark, Open, Place};
 use sqlite_items::{Boxed, Items};
 use std::alloc::{AllocError, Global};
 use std::mem;
@@ -143,35 +143,35 @@ fn after_open_list(alloc: Global, place: &mut Place) -> Result<bool, AllocError>
     }
 }
 
-/// What a construct is after one more term and a comma.
-fn comma_after(inner: Open, term: Term) -> Result<Option<Open>, AllocError>
-    ensures { IfOk result (λ next. next ≡ moves.comma_after inner term) }
+/// What brackets with these terms are after a mark.
+fn terms_marked(mark: Mark, brackets: Brackets, items: Items<Term>) -> Option<Open>
+    ensures { result ≡ moves.terms_marked mark brackets items }
 {
-    match inner {
-        Open::Terms(brackets, items) => Ok(Some(Open::Terms(brackets, with_term(items, term)?))),
-        Open::Value => Ok(Some(Open::Key)),
-        _ => Ok(None),
+    match mark {
+        Mark::Comma => Some(Open::Terms(brackets, items)),
+        Mark::Bar => match brackets {
+            Brackets::List => Some(Open::Tail(items)),
+            _ => None,
+        },
+        Mark::Arrow => None,
     }
 }
 
-/// The same with `|`.
-fn bar_after(inner: Open, term: Term) -> Result<Option<Open>, AllocError>
-    ensures { IfOk result (λ next. next ≡ moves.bar_after inner term) }
+/// What a construct is after one more term and a mark.
+fn mark_after(mark: Mark, inner: Open, term: Term) -> Result<Option<Open>, AllocError>
+    ensures { IfOk result (λ next. next ≡ moves.mark_after mark inner term) }
 {
     match inner {
-        Open::Terms(Brackets::List, items) => Ok(Some(Open::Tail(with_term(items, term)?))),
+        Open::Terms(brackets, items) => Ok(terms_marked(mark, brackets, with_term(items, term)?)),
+        Open::Key => match mark {
+            Mark::Arrow => Ok(Some(Open::Value)),
+            _ => Ok(None),
+        },
+        Open::Value => match mark {
+            Mark::Comma => Ok(Some(Open::Key)),
+            _ => Ok(None),
+        },
         _ => Ok(None),
-    }
-}
-
-/// The same with `=>`.
-fn arrow_after(inner: Open, term: Term) -> Option<Open>
-    ensures { result ≡ moves.arrow_after inner term }
-{
-    let _key = term;
-    match inner {
-        Open::Key => Some(Open::Value),
-        _ => None,
     }
 }
 
@@ -185,8 +185,8 @@ fn take_inner(place: &mut Place) -> (Open, Last)
     (inner, last)
 }
 
-/// The construct after a mark, if the mark can follow.
-fn mark(place: &mut Place, inner: Option<Open>) -> bool
+/// The construct as it goes on, if it does.
+fn go_into(place: &mut Place, inner: Option<Open>) -> bool
     ensures { kept result place.new ≡ option_map (moves.marked place.old) inner }
 {
     match inner {
@@ -200,43 +200,15 @@ fn mark(place: &mut Place, inner: Option<Open>) -> bool
 }
 
 #[inline(never)]
-fn after_comma(place: &mut Place) -> Result<bool, AllocError>
-    ensures { IfOk result (λ goes. kept goes place.new ≡ moves.after_mark moves.comma_after place.old) }
+fn after_mark(place: &mut Place, mark: Mark) -> Result<bool, AllocError>
+    ensures { IfOk result (λ goes. kept goes place.new ≡ moves.after_mark mark place.old) }
 {
     let (inner, last) = take_inner(place);
     match last_term(last) {
         None => Ok(false),
         Some(term) => {
-            let inner = comma_after(inner, term)?;
-            Ok(mark(place, inner))
-        }
-    }
-}
-
-#[inline(never)]
-fn after_bar(place: &mut Place) -> Result<bool, AllocError>
-    ensures { IfOk result (λ goes. kept goes place.new ≡ moves.after_mark moves.bar_after place.old) }
-{
-    let (inner, last) = take_inner(place);
-    match last_term(last) {
-        None => Ok(false),
-        Some(term) => {
-            let inner = bar_after(inner, term)?;
-            Ok(mark(place, inner))
-        }
-    }
-}
-
-#[inline(never)]
-fn after_arrow(place: &mut Place) -> bool
-    ensures { kept result place.new ≡ moves.after_mark moves.arrow_after place.old }
-{
-    let (inner, last) = take_inner(place);
-    match last_term(last) {
-        None => false,
-        Some(term) => {
-            let inner = arrow_after(inner, term);
-            mark(place, inner)
+            let inner = mark_after(mark, inner, term)?;
+            Ok(go_into(place, inner))
         }
     }
 }
@@ -380,9 +352,9 @@ pub fn go_on(alloc: Global, place: &mut Place, token: Token) -> Result<bool, All
         Token::OpenMap => after_open(place, Open::Key),
         Token::CloseBrace => after_brace(place),
         Token::CloseBracket => after_bracket(alloc, place),
-        Token::Comma => after_comma(place),
-        Token::Bar => after_bar(place),
-        Token::Arrow => Ok(after_arrow(place)),
+        Token::Comma => after_mark(place, Mark::Comma),
+        Token::Bar => after_mark(place, Mark::Bar),
+        Token::Arrow => after_mark(place, Mark::Arrow),
         Token::Dot => Ok(false),
     }
 }

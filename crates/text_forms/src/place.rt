@@ -11,6 +11,14 @@ pub enum Brackets {
     Arguments,
 }
 
+/// A mark between terms.
+#[derive(Clone, Copy)]
+pub enum Mark {
+    Comma,
+    Bar,
+    Arrow,
+}
+
 /// A construct that has begun and has not ended, with the terms that it has so far.
 #[derive(Drop)]
 pub enum Open {

@@ -1,4 +1,4 @@
-ghost use Rattle.std.specs.Prelude.{◌≡◌, ◌∷◌, ◌==◌, [], option_map};
+ghost use Rattle.std.specs.Prelude.{◌≡◌, ◌∷◌, ◌==◌, [], option_map, if◌then◌else◌};
 ghost use Rattle.std.specs.Cmp.Lexicographic.{pointwise};
 ghost use Rattle.text_tokens.specs.Tokens.{at};
 ghost use Rattle.text_forms.specs.Places as places;
@@ -13,7 +13,6 @@ use crate::place::{Last, Looseness, Open, Place, Stand};
 use crate::{Form, TextRefusal};
 use sqlite_items::Items;
 use std::alloc::Global;
-use term_tree::Name;
 use text_tokens::{Kind, Reason, Token};
 
 /// The most brackets that may be open.
@@ -37,37 +36,19 @@ fn is_loose(looseness: Looseness) -> bool
     }
 }
 
-fn names_percent(name: &Name) -> bool
-    ensures { result ≡ pointwise ◌==◌ name.now (37 ∷ []) }
-{
-    name.as_str() == "%"
-}
-
 fn is_percent(token: &Token) -> bool
     ensures { result ≡ places.is_percent token.now }
 {
     match token {
-        Token::Atom(name) => names_percent(name),
+        Token::Atom(name) => name.as_str() == "%",
         _ => false,
     }
 }
 
-fn is_brace(token: &Token) -> bool
-    ensures { result ≡ places.is_brace token.now }
+fn strict_unless(passes: bool, looseness: Looseness) -> Looseness
+    ensures { result ≡ (if passes then looseness else Looseness.Strict) }
 {
-    matches!(token, Token::OpenTuple)
-}
-
-fn is_comma(token: &Token) -> bool
-    ensures { result ≡ places.is_comma token.now }
-{
-    matches!(token, Token::Comma)
-}
-
-fn is_dot(token: &Token) -> bool
-    ensures { result ≡ places.is_dot token.now }
-{
-    matches!(token, Token::Dot)
+    if passes { looseness } else { Looseness::Strict }
 }
 
 /// How loose a form's places are after one more token.
@@ -75,27 +56,9 @@ fn looseness_after(looseness: Looseness, token: &Token) -> Looseness
     ensures { result ≡ steps.looseness_after looseness token.now }
 {
     match looseness {
-        Looseness::Start => {
-            if is_brace(token) {
-                Looseness::Brace
-            } else {
-                Looseness::Strict
-            }
-        }
-        Looseness::Brace => {
-            if is_percent(token) {
-                Looseness::Percent
-            } else {
-                Looseness::Strict
-            }
-        }
-        Looseness::Percent => {
-            if is_comma(token) {
-                Looseness::Loose
-            } else {
-                Looseness::Strict
-            }
-        }
+        Looseness::Start => strict_unless(matches!(token, Token::OpenTuple), Looseness::Brace),
+        Looseness::Brace => strict_unless(is_percent(token), Looseness::Percent),
+        Looseness::Percent => strict_unless(matches!(token, Token::Comma), Looseness::Loose),
         Looseness::Loose => Looseness::Loose,
         Looseness::Strict => Looseness::Strict,
     }
@@ -109,12 +72,6 @@ fn too_deep(line: u32, count: usize) -> Option<TextRefusal>
     } else {
         None
     }
-}
-
-fn kind_at(line: u32, kind: Kind) -> Option<TextRefusal>
-    ensures { result ≡ Some (TextRefusal.Kind line kind) }
-{
-    Some(TextRefusal::Kind { line, kind })
 }
 
 /// Why a token is refused by itself.
@@ -133,14 +90,20 @@ fn refused_itself(loose: bool, line: u32, count: usize, token: &Token) -> Option
             if loose {
                 None
             } else {
-                kind_at(line, Kind::Float)
+                Some(TextRefusal::Kind {
+                    line,
+                    kind: Kind::Float,
+                })
             }
         }
         Token::OpenMap => {
             if loose {
                 too_deep(line, count)
             } else {
-                kind_at(line, Kind::Map)
+                Some(TextRefusal::Kind {
+                    line,
+                    kind: Kind::Map,
+                })
             }
         }
         Token::OpenTuple => too_deep(line, count),
@@ -221,7 +184,7 @@ pub fn take(alloc: Global, stand: &mut Stand, line: u32, token: Token) -> Result
     if let Some(refusal) = refused_itself(loose, line, stand.place.outer.len(), &token) {
         return Err(refusal);
     }
-    if is_dot(&token) {
+    if matches!(token, Token::Dot) {
         end_form(alloc, stand, line)
     } else {
         go_further(alloc, stand, line, token)

@@ -9,6 +9,7 @@ use Rattle.text_tokens.specs.Pieces.{piece}
 use Rattle.text_tokens.specs.Tokens.{Bad, More, tokens_after, line_after}
 use Rattle.text_tokens.specs.Cuts.{tokens_at, tokens_behind, IsQuoted, closes, goes_on}
 use Rattle.text_tokens.proofs.Fronts.{front_tokens, tokens-front}
+use Rattle.text_tokens.proofs.Quotes.{quotes-skip, quotes-close, quotes-more}
 
 tokens-behind : (skip before line : ℕ) (bs : List ℕ) → tokens_after skip before line bs ≡ tokens_behind skip before line bs
 tokens-behind zero before line [] = refl
@@ -84,3 +85,20 @@ quotes-cut quote bs text left e =
     let q : Quoted quote 0 [] bs text left = quoted_from quote 0 [] bs text left e in
     let P : List ℕ → Type 0 = λ t. IsQuoted quote bs t q.rest in
     (q.rest, q.size, subst P q.whole q.is)
+
+-- the bytes that belong to the character before are passed over
+quotes-behind : (quote skip : ℕ) (got bs : List ℕ) → between_quotes quote skip got bs ≡ between_quotes quote 0 got (drop skip bs)
+quotes-behind quote zero got [] = refl
+quotes-behind quote (suc n) got [] = refl
+quotes-behind quote zero got (b ∷ bs) = refl
+quotes-behind quote (suc n) got (b ∷ bs) =
+    let less : suc n - 1 ≡ n = omega arith in
+    quotes-skip quote (suc n) got (b ∷ bs) b bs refl (omega arith) ∙ ap (λ k. between_quotes quote k got bs) less ∙ quotes-behind quote n got bs
+
+pub quotes-joined : (quote : ℕ) (bs text rest got : List ℕ) → IsQuoted quote bs text rest → between_quotes quote 0 got bs ≡ Some (got ++ text, length rest)
+quotes-joined quote _ _ _ got (closes rest) = quotes-close quote 0 got (quote ∷ rest) quote rest refl (omega arith) refl ∙ ap (λ t. Some (t, length rest)) (sym (append-nil got))
+quotes-joined quote _ _ _ got (goes_on b bs code size text rest other is more) =
+    quotes-more quote 0 got (b ∷ bs) b bs code size refl (omega arith) other is
+    ∙ quotes-behind quote (size - 1) (got ++ encode_utf8 code) bs
+    ∙ quotes-joined quote (drop (size - 1) bs) text rest (got ++ encode_utf8 code) more
+    ∙ ap (λ t. Some (t, length rest)) (append_assoc got (encode_utf8 code) text)

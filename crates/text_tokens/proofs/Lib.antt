@@ -2,8 +2,7 @@ pub mod Runs
 pub mod Quotes
 pub mod Bytes
 pub mod Integers
-pub mod CanonicalLists
 pub mod Fronts
-pub mod Scalars
 pub mod CanonicalTokens
 pub mod CutLaws
+pub mod Longest

@@ -5,15 +5,9 @@ use Rattle.term_tree.specs.Small.{is_small}
 use Rattle.term_tree.specs.Term.{is_canonical}
 use Rattle.text_tokens.specs.declared.token.Token.{Token}
 use Rattle.text_tokens.specs.declared.token.Token.TheVariants as k
-use Rattle.text_tokens.specs.declared.token.Piece.{Piece}
-use Rattle.text_tokens.specs.declared.token.Piece.TheVariants as p
 
 -- the integer and the code points of a token
 abbrev pub in_token : Token → Bool
 in_token (k.Integer n) = is_small n
 in_token (k.Text codes) = list_all is_canonical codes
 in_token other = true
-
-abbrev pub in_piece : Piece → Bool
-in_piece (p.Whole token size) = in_token token
-in_piece other = true

@@ -1,6 +1,6 @@
 -- Characters as bytes and between quotes (The Unicode Standard, table 3-7, Well-Formed UTF-8 Byte Sequences; Erlang
 -- reference manual, Data Types, Escape Sequences; docs/TEXT.md). A character at the front of some bytes is its code
--- and its size in bytes.
+-- and its size in bytes; a code is that of a character if it is a Unicode scalar value.
 use Rattle.std.specs.Prelude.{ℕ, ◌+◌, ◌-◌, ◌*◌, Bool, false, ◌&&◌, nat_lt, nat_le, ◌==◌, if◌then◌else◌, List, [], ◌∷◌, ◌++◌, length, take, drop, slice_get, Option, Some, None, option_and_then, encode_utf8}
 use Rattle.std.specs.Char.{digit_value}
 use lib.Utf8.{scalar}
@@ -37,9 +37,9 @@ abbrev pub continued : Option ℕ → ℕ → Option ℕ
 continued None bits = None
 continued (Some b) bits = if is_between 128 191 b then Some (bits * 64 + (b - 128)) else None
 
--- the character of these bits, unless fewer bytes can spell it
+-- the code of these bits, unless fewer bytes can spell it
 abbrev pub from_bits : ℕ → ℕ → ℕ → Option (ℕ × ℕ)
-from_bits least size bits = if nat_lt bits least then None else scalar_of bits size
+from_bits least size bits = if nat_lt bits least then None else Some (bits, size)
 
 abbrev pub two_bytes : ℕ → List ℕ → Option (ℕ × ℕ)
 two_bytes b bs = option_and_then (from_bits 128 2) (continued (slice_get bs 0) (b - 192))
@@ -52,10 +52,10 @@ abbrev pub four_bytes : ℕ → List ℕ → Option (ℕ × ℕ)
 four_bytes b bs =
     option_and_then (λ bits. option_and_then (λ more. option_and_then (from_bits 65536 4) (continued (slice_get bs 2) more)) (continued (slice_get bs 1) bits)) (continued (slice_get bs 0) (b - 240))
 
--- the character at the front, in UTF-8
-abbrev pub utf8_character : List ℕ → Option (ℕ × ℕ)
-utf8_character [] = None
-utf8_character (b ∷ bs) =
+-- the code at the front, in UTF-8
+abbrev pub utf8_code : List ℕ → Option (ℕ × ℕ)
+utf8_code [] = None
+utf8_code (b ∷ bs) =
     if nat_lt b 128 then Some (b, 1)
     else if nat_lt b 192 then None
     else if nat_lt b 224 then two_bytes b bs
@@ -78,15 +78,14 @@ octal_digits first None third = (first, 2)
 octal_digits first (Some second) None = (first * 8 + second, 3)
 octal_digits first (Some second) (Some third) = ((first * 8 + second) * 8 + third, 4)
 
-abbrev pub octal_escape : ℕ → List ℕ → Option (ℕ × ℕ)
-octal_escape first bs =
-    Some (octal_digits first (digit_value_of 8 (slice_get bs 0)) (digit_value_of 8 (slice_get bs 1)))
+abbrev pub octal_escape : ℕ → List ℕ → ℕ × ℕ
+octal_escape first bs = octal_digits first (digit_value_of 8 (slice_get bs 0)) (digit_value_of 8 (slice_get bs 1))
 
 -- two hexadecimal digits; without them `\x` is the character x
-abbrev pub two_hex_digits : Option ℕ → Option ℕ → Option (ℕ × ℕ)
-two_hex_digits None low = Some (120, 2)
-two_hex_digits (Some high) None = Some (120, 2)
-two_hex_digits (Some high) (Some low) = Some (high * 16 + low, 4)
+abbrev pub two_hex_digits : Option ℕ → Option ℕ → ℕ × ℕ
+two_hex_digits None low = (120, 2)
+two_hex_digits (Some high) None = (120, 2)
+two_hex_digits (Some high) (Some low) = (high * 16 + low, 4)
 
 -- the same of one or more digits and a closing brace, after `\x{`
 abbrev pub braced_escape : List ℕ → Option (ℕ × ℕ)
@@ -98,15 +97,15 @@ braced_escape bs =
 abbrev pub hex_escape : List ℕ → Option (ℕ × ℕ)
 hex_escape bs =
     if begins (is 123) bs then braced_escape (drop 1 bs)
-    else two_hex_digits (digit_value_of 16 (slice_get bs 0)) (digit_value_of 16 (slice_get bs 1))
+    else Some (two_hex_digits (digit_value_of 16 (slice_get bs 0)) (digit_value_of 16 (slice_get bs 1)))
 
 -- `\^` and a character from `@` to `_`, or a letter; before another character it is `^`
-abbrev pub control_escape : Option ℕ → Option (ℕ × ℕ)
-control_escape None = Some (94, 2)
+abbrev pub control_escape : Option ℕ → ℕ × ℕ
+control_escape None = (94, 2)
 control_escape (Some b) =
-    if is_between 64 95 b then Some (b - 64, 3)
-    else if is_between 97 122 b then Some (b - 96, 3)
-    else Some (94, 2)
+    if is_between 64 95 b then (b - 64, 3)
+    else if is_between 97 122 b then (b - 96, 3)
+    else (94, 2)
 
 -- the escapes b, d, e, f, n, r, s, t and v; any other character is itself
 abbrev pub named : ℕ → ℕ
@@ -119,20 +118,24 @@ abbrev pub after_backslash : Option (ℕ × ℕ) → Option (ℕ × ℕ)
 after_backslash None = None
 after_backslash (Some c) = Some (c.0, c.1 + 1)
 
--- the character that a backslash and these bytes begin with
+-- the code that a backslash and these bytes begin with
 abbrev pub escape : List ℕ → Option (ℕ × ℕ)
 escape [] = None
 escape (b ∷ bs) =
-    if is_digit_of 8 b then octal_escape (digit_value b) bs
+    if is_digit_of 8 b then Some (octal_escape (digit_value b) bs)
     else if b == 120 then hex_escape bs
-    else if b == 94 then control_escape (slice_get bs 0)
+    else if b == 94 then Some (control_escape (slice_get bs 0))
     else if nat_lt b 128 then Some (named b, 2)
-    else after_backslash (utf8_character (b ∷ bs))
+    else after_backslash (utf8_code (b ∷ bs))
+
+-- the code at the front, as it stands between quotes
+abbrev pub quoted_code : List ℕ → Option (ℕ × ℕ)
+quoted_code [] = None
+quoted_code (b ∷ bs) = if b == 92 then escape bs else utf8_code (b ∷ bs)
 
 -- the character at the front, as it stands between quotes
 unfoldable pub quoted_character : List ℕ → Option (ℕ × ℕ)
-quoted_character [] = None
-quoted_character (b ∷ bs) = if b == 92 then escape bs else utf8_character (b ∷ bs)
+quoted_character bs = option_and_then (λ c. scalar_of c.0 c.1) (quoted_code bs)
 
 -- what stands between quotes, in UTF-8, and how many bytes are left after the closing quote. `skip` bytes belong to
 -- the character before, and `got` has come so far.

@@ -1,6 +1,6 @@
 -- Characters and texts of the code as their definitions give them.
 use Rattle.std.specs.Prelude.{ℕ, List, Option, Some, None, string_bytes}
-use Rattle.text_tokens.specs.declared.character.Spelled.{Spelled}
+use Rattle.text_tokens.specs.declared.escape.Spelled.{Spelled}
 use Rattle.text_tokens.specs.declared.quoted.Inside.{Inside}
 
 abbrev pub found : Option Spelled → Option (ℕ × ℕ)

@@ -5,3 +5,4 @@ pub mod Found
 pub mod Class
 pub mod Canonical
 pub mod Cuts
+pub mod Spellings

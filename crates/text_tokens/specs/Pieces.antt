@@ -3,6 +3,7 @@ use Rattle.std.specs.Prelude.{ℕ, pos, ◌-ℤ◌, ◌+◌, ◌-◌, Bool, true
 use Rattle.std.specs.Str.{chars, is_utf8}
 use Rattle.term_tree.specs.declared.term.Term as t
 use Rattle.term_tree.specs.Name.{characters_in}
+use Rattle.term_tree.specs.declared.name.TheConstants.{MOST_CHARACTERS}
 use Rattle.term_tree.specs.Small.{small_limit}
 use Rattle.text_tokens.specs.declared.token.Kind.TheVariants as k
 use Rattle.text_tokens.specs.declared.token.Token.{Token}
@@ -72,9 +73,9 @@ number negative bs =
     else if begins (is 35) rest then Bad (OfKind k.Based)
     else Whole (integer negative (number_after 10 0 (take count bs))) size
 
--- an atom with the bytes of its text, if it has no more than 255 characters
+-- an atom with the bytes of its text, if it has no more characters than an atom may have
 abbrev pub atom : List ℕ → ℕ → Piece
-atom text size = if nat_lt 255 (characters_in text) then Bad Syntax else Whole (Atom text) size
+atom text size = if nat_lt MOST_CHARACTERS (characters_in text) then Bad Syntax else Whole (Atom text) size
 
 unfoldable pub bare_atom : List ℕ → Piece
 bare_atom bs = let count = run is_name_byte bs in atom (take count bs) count

@@ -22,37 +22,12 @@ pub enum Class {
 pub fn digit_value(byte: u8) -> u8
     ensures { result ≡ character.digit_value byte }
 {
-    if byte < 48 {
-        36
-    } else if byte < 58 {
-        byte - 48
-    } else if byte < 65 {
-        36
-    } else if byte < 91 {
-        byte - 55
-    } else if byte < 97 {
-        36
-    } else if byte < 123 {
-        byte - 87
-    } else {
-        36
+    match byte {
+        b'0'..=b'9' => byte - b'0',
+        b'A'..=b'Z' => byte - b'A' + 10,
+        b'a'..=b'z' => byte - b'a' + 10,
+        _ => 36,
     }
-}
-
-fn is_separator(byte: u8) -> bool
-    ensures { result ≡ is_in Class.Separator byte }
-{
-    byte >= 9 && byte <= 13 || byte == 32
-}
-
-fn is_name(byte: u8) -> bool
-    ensures { result ≡ is_in Class.Name byte }
-{
-    byte >= 97 && byte <= 122
-        || byte >= 65 && byte <= 90
-        || byte >= 48 && byte <= 57
-        || byte == 95
-        || byte == 64
 }
 
 /// Whether the byte is in the class.
@@ -63,11 +38,17 @@ pub fn passes(class: Class, byte: u8) -> bool
         Class::Byte(wanted) => byte == wanted,
         Class::Digit => digit_value(byte) < 10,
         Class::HexDigit => digit_value(byte) < 16,
-        Class::Separator => is_separator(byte),
-        Class::Lower => byte >= 97 && byte <= 122,
-        Class::Name => is_name(byte),
-        Class::Sign => byte == 43 || byte == 45,
-        Class::Comment => byte != 10,
+        Class::Separator => byte >= b'\t' && byte <= b'\r' || byte == b' ',
+        Class::Lower => byte >= b'a' && byte <= b'z',
+        Class::Name => {
+            byte >= b'a' && byte <= b'z'
+                || byte >= b'A' && byte <= b'Z'
+                || byte >= b'0' && byte <= b'9'
+                || byte == b'_'
+                || byte == b'@'
+        }
+        Class::Sign => byte == b'+' || byte == b'-',
+        Class::Comment => byte != b'\n',
     }
 }
 

@@ -11,7 +11,7 @@ use crate::token::{Kind, Piece, Reason, Token};
 use sqlite_items::Items;
 use std::alloc::{AllocError, Global};
 use std::str;
-use term_tree::{Name, NameRefusal, Term};
+use term_tree::{MOST_CHARACTERS, Name, NameRefusal, Term};
 
 /// A comment, by the bytes after its `%`.
 #[tactic(auto, using(crate::proofs::Bytes::utf8_steps), unfolding(crate::specs::Pieces::comment))]
@@ -26,15 +26,12 @@ fn comment(bytes: &[u8]) -> Piece
     }
 }
 
-/// The most bytes of a text that needs no count of its characters.
-const SHORT: usize = 255;
-
 /// An atom with this text.
 #[tactic(auto, using(term_tree::proofs::NameLaws::characters_few))]
 fn atom(alloc: Global, text: &str, size: usize) -> Result<Piece, AllocError>
     ensures piece { IfOk result (λ piece. piece ≡ pieces.atom text.now size) }
 {
-    if text.len() <= SHORT {
+    if text.len() <= MOST_CHARACTERS {
         let name = Name::from_short(alloc, text)?;
         return Ok(Piece::Whole(Token::Atom(name), size));
     }
@@ -48,7 +45,7 @@ fn atom(alloc: Global, text: &str, size: usize) -> Result<Piece, AllocError>
 /// An atom without quotes.
 #[tactic(auto, using(crate::proofs::Bytes::utf8_steps), unfolding(crate::specs::Pieces::bare_atom))]
 #[inline(never)]
-fn bare_atom(alloc: Global, bytes: &[u8]) -> Result<Piece, AllocError>
+pub fn bare_atom(alloc: Global, bytes: &[u8]) -> Result<Piece, AllocError>
     ensures piece { IfOk result (λ piece. piece ≡ pieces.bare_atom bytes.now) }
 {
     let count = run(Class::Name, bytes);
@@ -73,14 +70,14 @@ fn code_terms(alloc: Global, text: &str) -> Result<Items<Term>, AllocError>
 /// A quoted atom or a string, by the bytes after its opening quote.
 #[tactic(auto, unfolding(crate::specs::Pieces::quoted))]
 #[inline(never)]
-fn quoted(alloc: Global, quote: u8, bytes: &[u8]) -> Result<Piece, AllocError>
+pub fn quoted_piece(alloc: Global, quote: u8, bytes: &[u8]) -> Result<Piece, AllocError>
     ensures piece { IfOk result (λ piece. piece ≡ pieces.quoted quote (length bytes.now + 1) (quotes.between_quotes quote 0 [] bytes.now)) }
 {
     let Some(inside) = between_quotes(alloc, quote, bytes)? else {
         return Ok(Piece::Bad(Reason::Syntax));
     };
     let size = bytes.len() + 1 - inside.left;
-    if quote == 39 {
+    if quote == b'\'' {
         atom(alloc, inside.text.as_str(), size)
     } else {
         let codes = code_terms(alloc, inside.text.as_str())?;
@@ -96,23 +93,12 @@ fn dot(bytes: &[u8]) -> Piece
         None => Piece::Whole(Token::Dot, 1),
         Some((first, _)) => {
             let first = *first;
-            if passes(Class::Separator, first) || first == 37 {
+            if passes(Class::Separator, first) || first == b'%' {
                 Piece::Whole(Token::Dot, 1)
             } else {
                 Piece::Bad(Reason::Syntax)
             }
         }
-    }
-}
-
-/// A mark of two bytes, of which the second follows the first.
-fn pair(second: u8, bytes: &[u8], here: Piece, other: Piece) -> Piece
-    ensures piece { result ≡ (if quotes.begins (quotes.is second) bytes.now then here else other) }
-{
-    if begins(Class::Byte(second), bytes) {
-        here
-    } else {
-        other
     }
 }
 
@@ -124,12 +110,12 @@ pub fn one_byte_token(byte: u8) -> Option<Token>
     ensures others { result ≡ None → (byte ≢ 123) × (byte ≢ 125) × (byte ≢ 91) × (byte ≢ 93) × (byte ≢ 44) × (byte ≢ 124) }
 {
     match byte {
-        123 => Some(Token::OpenTuple),
-        125 => Some(Token::CloseBrace),
-        91 => Some(Token::OpenList),
-        93 => Some(Token::CloseBracket),
-        44 => Some(Token::Comma),
-        124 => Some(Token::Bar),
+        b'{' => Some(Token::OpenTuple),
+        b'}' => Some(Token::CloseBrace),
+        b'[' => Some(Token::OpenList),
+        b']' => Some(Token::CloseBracket),
+        b',' => Some(Token::Comma),
+        b'|' => Some(Token::Bar),
         _ => None,
     }
 }
@@ -144,26 +130,12 @@ fn mark(first: u8, bytes: &[u8]) -> Piece
         return Piece::Whole(token, 1);
     }
     match first {
-        46 => dot(bytes),
-        36 => Piece::Bad(Reason::OfKind(Kind::Character)),
-        60 => pair(
-            60,
-            bytes,
-            Piece::Bad(Reason::OfKind(Kind::Binary)),
-            Piece::Bad(Reason::Syntax),
-        ),
-        35 => pair(
-            123,
-            bytes,
-            Piece::Whole(Token::OpenMap, 2),
-            Piece::Bad(Reason::OfKind(Kind::Map)),
-        ),
-        61 => pair(
-            62,
-            bytes,
-            Piece::Whole(Token::Arrow, 2),
-            Piece::Bad(Reason::Syntax),
-        ),
+        b'.' => dot(bytes),
+        b'$' => Piece::Bad(Reason::OfKind(Kind::Character)),
+        b'<' if begins(Class::Byte(b'<'), bytes) => Piece::Bad(Reason::OfKind(Kind::Binary)),
+        b'#' if begins(Class::Byte(b'{'), bytes) => Piece::Whole(Token::OpenMap, 2),
+        b'#' => Piece::Bad(Reason::OfKind(Kind::Map)),
+        b'=' if begins(Class::Byte(b'>'), bytes) => Piece::Whole(Token::Arrow, 2),
         _ => Piece::Bad(Reason::Syntax),
     }
 }
@@ -179,16 +151,16 @@ pub fn piece(alloc: Global, bytes: &[u8]) -> Result<Piece, AllocError>
     let first = *first;
     if passes(Class::Separator, first) {
         Ok(Piece::Blank(1))
-    } else if first == 37 {
+    } else if first == b'%' {
         Ok(comment(rest))
     } else if passes(Class::Digit, first) {
         Ok(number_piece(false, bytes))
-    } else if first == 45 && begins(Class::Digit, rest) {
+    } else if first == b'-' && begins(Class::Digit, rest) {
         Ok(number_piece(true, rest))
     } else if passes(Class::Lower, first) {
         bare_atom(alloc, bytes)
-    } else if first == 39 || first == 34 {
-        quoted(alloc, first, rest)
+    } else if first == b'\'' || first == b'"' {
+        quoted_piece(alloc, first, rest)
     } else {
         Ok(mark(first, rest))
     }

@@ -41,7 +41,7 @@ fn exponent_size(bytes: &[u8]) -> usize
     };
     let sign = sign_size(rest);
     let count = run(Class::Digit, &rest[sign..]);
-    if (*first == 101 || *first == 69) && count > 0 {
+    if (*first == b'e' || *first == b'E') && count > 0 {
         1 + sign + count
     } else {
         0
@@ -56,7 +56,7 @@ fn begins_fraction(bytes: &[u8]) -> bool
     let Some((first, rest)) = bytes.split_first() else {
         return false;
     };
-    *first == 46 && begins(Class::Digit, rest)
+    *first == b'.' && begins(Class::Digit, rest)
 }
 
 /// A float, from its point on, of which `size` bytes stand before the point.
@@ -80,7 +80,7 @@ pub fn number_piece(negative: bool, bytes: &[u8]) -> Piece
     let size = if negative { count + 1 } else { count };
     if begins_fraction(rest) {
         float(size, rest)
-    } else if begins(Class::Byte(35), rest) {
+    } else if begins(Class::Byte(b'#'), rest) {
         Piece::Bad(Reason::OfKind(Kind::Based))
     } else {
         let value = number(10, &bytes[..count]);

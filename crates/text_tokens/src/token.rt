@@ -2,7 +2,7 @@ use sqlite_items::Items;
 use term_tree::{Name, Term};
 
 /// What a text may not use.
-#[derive(Clone, Copy, PartialEq, Eq, Debug)]
+#[derive(Clone, Copy, Debug)]
 pub enum Kind {
     Float,
     Based,

@@ -1,17 +1,16 @@
-use Rattle.asm_text.proofs.ReadingLaws.{arguments_met, reads_arguments, arguments_spelled, arguments_refused, arguments_canonical}
+use Rattle.std.proofs.Common.{◌≡◌, true}
+use Rattle.std.specs.List.{list_all}
+use Rattle.text_forms.specs.Spelling.{AreArguments}
+use Rattle.text_forms.specs.Steps.{whole_arguments}
+use Rattle.text_forms.proofs.Canonical.{canonical_arguments}
+use Rattle.text_forms.proofs.Roots.{arguments_root}
+use Rattle.term_tree.specs.Term.{is_canonical}
+use Rattle.asm_text.specs.Reading.{arguments}
+use Rattle.asm_text.proofs.ReadingLaws.{answered, arguments-is}
 use Rattle.asm_text.proofs.reading.read_args.Goals as goal
 
-pub returns-clause-arguments : goal.returns-clause-arguments
-returns-clause-arguments c = arguments_met c.args.text.now c.arguments_in.result c.arguments_in.ensures
-
-pub returns-clause-written : goal.returns-clause-written
-returns-clause-written c = reads_arguments c.args.text.now c.arguments_in.result (arguments_met c.args.text.now c.arguments_in.result c.arguments_in.ensures)
-
-pub returns-clause-spelled : goal.returns-clause-spelled
-returns-clause-spelled c = arguments_spelled c.args.text.now c.arguments_in.result (arguments_met c.args.text.now c.arguments_in.result c.arguments_in.ensures)
-
-pub returns-clause-refused : goal.returns-clause-refused
-returns-clause-refused c = arguments_refused c.args.text.now c.arguments_in.result (arguments_met c.args.text.now c.arguments_in.result c.arguments_in.ensures)
-
-pub returns-clause-canonical : goal.returns-clause-canonical
-returns-clause-canonical c = arguments_canonical c.args.text.now c.arguments_in.result (arguments_met c.args.text.now c.arguments_in.result c.arguments_in.ensures)
+pub returns : goal.returns
+returns c =
+    let text = c.args.text.now in
+    let a = answered AreArguments true whole_arguments arguments_root (λ terms. list_all is_canonical terms ≡ true) canonical_arguments text c.arguments_in.result (arguments text) (arguments-is text) c.arguments_in.ensures in
+    record { arguments = a.meets; written = a.written; spelled = a.spelled; refused = a.refused; canonical = a.canonical }

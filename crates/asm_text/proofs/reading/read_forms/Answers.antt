@@ -1,17 +1,16 @@
-use Rattle.asm_text.proofs.ReadingLaws.{forms_met, reads_forms, forms_spelled, forms_refused, forms_canonical}
+use Rattle.std.proofs.Common.{◌≡◌, true, false}
+use Rattle.std.specs.List.{list_all}
+use Rattle.text_forms.specs.Spelling.{AreForms}
+use Rattle.text_forms.specs.Steps.{whole_forms}
+use Rattle.text_forms.proofs.Canonical.{canonical_forms}
+use Rattle.text_forms.proofs.Roots.{forms_root}
+use Rattle.asm_text.specs.Canonical.{has_canonical}
+use Rattle.asm_text.specs.Reading.{reading}
+use Rattle.asm_text.proofs.ReadingLaws.{answered, reading-is}
 use Rattle.asm_text.proofs.reading.read_forms.Goals as goal
 
-pub returns-clause-forms : goal.returns-clause-forms
-returns-clause-forms c = forms_met c.args.text.now c.forms_in.result c.forms_in.ensures
-
-pub returns-clause-written : goal.returns-clause-written
-returns-clause-written c = reads_forms c.args.text.now c.forms_in.result (forms_met c.args.text.now c.forms_in.result c.forms_in.ensures)
-
-pub returns-clause-spelled : goal.returns-clause-spelled
-returns-clause-spelled c = forms_spelled c.args.text.now c.forms_in.result (forms_met c.args.text.now c.forms_in.result c.forms_in.ensures)
-
-pub returns-clause-refused : goal.returns-clause-refused
-returns-clause-refused c = forms_refused c.args.text.now c.forms_in.result (forms_met c.args.text.now c.forms_in.result c.forms_in.ensures)
-
-pub returns-clause-canonical : goal.returns-clause-canonical
-returns-clause-canonical c = forms_canonical c.args.text.now c.forms_in.result (forms_met c.args.text.now c.forms_in.result c.forms_in.ensures)
+pub returns : goal.returns
+returns c =
+    let text = c.args.text.now in
+    let a = answered AreForms false whole_forms forms_root (λ forms. list_all has_canonical forms ≡ true) canonical_forms text c.forms_in.result (reading text) (reading-is text) c.forms_in.ensures in
+    record { forms = a.meets; written = a.written; spelled = a.spelled; refused = a.refused; canonical = a.canonical }
