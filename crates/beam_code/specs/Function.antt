@@ -3,7 +3,7 @@ use Rattle.std.specs.Prelude.{ℕ, ◌+◌, ◌&&◌, Bool, true, false, Option,
 use Rattle.beam_code.specs.declared.instr.Instr.{Instr}
 use Rattle.beam_code.specs.declared.instr.Instr.TheVariants.{Label}
 use Rattle.beam_code.specs.declared.module.Function.{Function}
-use Rattle.beam_code.specs.declared.module.Item.{Item}
+use Rattle.beam_code.specs.declared.item.Item.{Item}
 use Rattle.beam_code.specs.declared.module.Module.{Module}
 use Rattle.beam_code.specs.Registers.{instr_xs, instr_ys}
 pub use Rattle.term_tree.specs.Name.{same_name}

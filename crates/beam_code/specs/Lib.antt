@@ -1,3 +1,6 @@
+pub mod Lined
+pub mod Canonical
+pub mod CanonicalModule
 pub mod Shape
 pub mod Registers
 pub mod Function

@@ -16,7 +16,7 @@ use Rattle.beam_code.specs.declared.instr.Operand.TheVariants.{X, Y, Int, Atom, 
 use Rattle.beam_code.specs.declared.instr.Place.{Place}
 use Rattle.beam_code.specs.declared.instr.Place.TheVariants as place
 use Rattle.beam_code.specs.declared.module.Function.{Function}
-use Rattle.beam_code.specs.declared.module.Item.{Item}
+use Rattle.beam_code.specs.declared.item.Item.{Item}
 use Rattle.beam_code.specs.declared.module.Module.{Module}
 use Rattle.beam_code.specs.Answer.{equal}
 use Rattle.beam_code.specs.BuiltIns.{Answer, Gives, Fails, built_in_number, inline_number, builtin, test_number, holds}

@@ -64,25 +64,7 @@ fn instr_xs(instr: &Instr) -> u32
         | Instr::CallExtOnly(arity, _) => (*arity).max(1),
         Instr::Return | Instr::CatchEnd(_) => 1,
         Instr::RawRaise => 3,
-        Instr::Label(_)
-        | Instr::Line(_)
-        | Instr::Comment(_)
-        | Instr::FuncInfo(_, _, _)
-        | Instr::Jump(_)
-        | Instr::Allocate(_, _)
-        | Instr::AllocateZero(_, _)
-        | Instr::AllocateHeap(_, _, _)
-        | Instr::AllocateHeapZero(_, _, _)
-        | Instr::TestHeap(_, _)
-        | Instr::Init(_)
-        | Instr::Kill(_)
-        | Instr::Trim(_, _)
-        | Instr::Deallocate(_)
-        | Instr::IfEnd
-        | Instr::Try(_, _)
-        | Instr::Catch(_, _)
-        | Instr::TryEnd(_)
-        | Instr::TryCase(_) => 0,
+        _ => 0,
     }
 }
 
@@ -95,48 +77,7 @@ fn instr_ys(instr: &Instr) -> u32
         | Instr::AllocateZero(n, _)
         | Instr::AllocateHeap(n, _, _)
         | Instr::AllocateHeapZero(n, _, _) => *n,
-        Instr::Label(_)
-        | Instr::Line(_)
-        | Instr::Comment(_)
-        | Instr::FuncInfo(_, _, _)
-        | Instr::Move(_, _)
-        | Instr::Swap(_, _)
-        | Instr::GetList(_, _, _)
-        | Instr::GetHd(_, _)
-        | Instr::GetTl(_, _)
-        | Instr::GetTupleElement(_, _, _)
-        | Instr::PutList(_, _, _)
-        | Instr::PutTuple2(_, _)
-        | Instr::Test(_, _, _)
-        | Instr::SelectVal(_, _, _)
-        | Instr::SelectTupleArity(_, _, _)
-        | Instr::Jump(_)
-        | Instr::TestHeap(_, _)
-        | Instr::Init(_)
-        | Instr::Kill(_)
-        | Instr::Trim(_, _)
-        | Instr::Deallocate(_)
-        | Instr::Return
-        | Instr::Call(_, _)
-        | Instr::CallExt(_, _)
-        | Instr::CallLast(_, _, _)
-        | Instr::CallExtLast(_, _, _)
-        | Instr::CallOnly(_, _)
-        | Instr::CallExtOnly(_, _)
-        | Instr::Bif(_, _, _, _)
-        | Instr::GcBif(_, _, _, _, _)
-        | Instr::Badmatch(_)
-        | Instr::CaseEnd(_)
-        | Instr::TryCaseEnd(_)
-        | Instr::IfEnd
-        | Instr::Try(_, _)
-        | Instr::Catch(_, _)
-        | Instr::TryEnd(_)
-        | Instr::TryCase(_)
-        | Instr::CatchEnd(_)
-        | Instr::BifRaise(_, _, _)
-        | Instr::Raise(_, _, _)
-        | Instr::RawRaise => 0,
+        _ => 0,
     }
 }
 
@@ -145,7 +86,7 @@ fn most_xs(items: &[Item]) -> u32
 {
     let mut most = 0;
     for item in items {
-        most = most.max(instr_xs(&item.instr));
+        most = most.max(instr_xs(item.instr()));
     }
     most
 }
@@ -155,7 +96,7 @@ fn most_ys(items: &[Item]) -> u32
 {
     let mut most = 0;
     for item in items {
-        most = most.max(instr_ys(&item.instr));
+        most = most.max(instr_ys(item.instr()));
     }
     most
 }

@@ -54,5 +54,14 @@ pub const GATE_BADARG: u32 = 16;
 /// The gate of built-in 0; that of built-in k is k more.
 pub const GATE_BUILT_INS: u32 = 64;
 
+/// How many built-ins there are, numbered from 0.
+pub const BUILT_INS: u32 = 57;
+
+/// The first of the built-ins that only raise: they are no guards.
+pub const FIRST_RAISER: u32 = 45;
+
+/// The last of them.
+pub const LAST_RAISER: u32 = 48;
+
 /// The gate of built-in 0 as a guard; that of built-in k is k more.
 pub const GATE_GUARDS: u32 = 128;

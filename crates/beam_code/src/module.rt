@@ -1,4 +1,4 @@
-use crate::Instr;
+use crate::{Body, Functions};
 use sqlite_items::Items;
 use term_tree::Name;
 
@@ -10,31 +10,25 @@ pub enum HandlerKind {
     Catch,
 }
 
-/// One instruction of a function, with the line of the text that it stands in, from 1.
-#[derive(Drop, Debug)]
-pub struct Item {
-    pub line: u32,
-    pub instr: Instr,
-}
-
 /// A function. `entry` is the index, in `items`, of the item where its calls begin.
 #[derive(Drop, Debug)]
 pub struct Function {
     pub name: Name,
     pub arity: u8,
     pub entry: u32,
-    pub items: Items<Item>,
+    pub items: Body,
 }
 
 /// The most bytes of a module's text, and of the texts of several together.
 pub const MOST_TEXT_BYTES: usize = 4_194_304;
 
-/// A module, with the bytes of the text that it was read from.
+/// A module, with the bytes of the text that it was read from. The terms of its functions are
+/// canonical.
 #[derive(Drop, Debug)]
 pub struct Module {
     pub name: Name,
     /// The exported functions by name and arity, in the order of the text.
     pub exports: Items<(Name, u8)>,
-    pub functions: Items<Function>,
+    pub functions: Functions,
     pub text: Items<u8>,
 }

@@ -140,23 +140,7 @@ pub fn writes(instr: &Instr, place: Place) -> bool
         | Instr::CallOnly(_, _)
         | Instr::CallExtOnly(_, _)
         | Instr::RawRaise => is_below(1, place),
-        Instr::Label(_)
-        | Instr::Line(_)
-        | Instr::Comment(_)
-        | Instr::FuncInfo(_, _, _)
-        | Instr::Test(_, _, _)
-        | Instr::SelectVal(_, _, _)
-        | Instr::SelectTupleArity(_, _, _)
-        | Instr::Jump(_)
-        | Instr::TestHeap(_, _)
-        | Instr::Trim(_, _)
-        | Instr::Return
-        | Instr::Badmatch(_)
-        | Instr::CaseEnd(_)
-        | Instr::TryCaseEnd(_)
-        | Instr::IfEnd
-        | Instr::BifRaise(_, _, _)
-        | Instr::Raise(_, _, _) => false,
+        _ => false,
     }
 }
 
@@ -195,36 +179,7 @@ pub fn goes_on(instr: &Instr) -> bool
         | Instr::BifRaise(_, _, _)
         | Instr::Raise(_, _, _) => false,
         Instr::CallExt(_, callee) => !never_returns(callee),
-        Instr::Label(_)
-        | Instr::Line(_)
-        | Instr::Comment(_)
-        | Instr::Move(_, _)
-        | Instr::Swap(_, _)
-        | Instr::GetList(_, _, _)
-        | Instr::GetHd(_, _)
-        | Instr::GetTl(_, _)
-        | Instr::GetTupleElement(_, _, _)
-        | Instr::PutList(_, _, _)
-        | Instr::PutTuple2(_, _)
-        | Instr::Test(_, _, _)
-        | Instr::Allocate(_, _)
-        | Instr::AllocateZero(_, _)
-        | Instr::AllocateHeap(_, _, _)
-        | Instr::AllocateHeapZero(_, _, _)
-        | Instr::TestHeap(_, _)
-        | Instr::Init(_)
-        | Instr::Kill(_)
-        | Instr::Trim(_, _)
-        | Instr::Deallocate(_)
-        | Instr::Call(_, _)
-        | Instr::Bif(_, _, _, _)
-        | Instr::GcBif(_, _, _, _, _)
-        | Instr::Try(_, _)
-        | Instr::Catch(_, _)
-        | Instr::TryEnd(_)
-        | Instr::TryCase(_)
-        | Instr::CatchEnd(_)
-        | Instr::RawRaise => true,
+        _ => true,
     }
 }
 
@@ -262,41 +217,6 @@ pub fn units(instr: &Instr) -> u32
         Instr::PutTuple2(_, all) => once(all.as_slice().len()),
         Instr::SelectVal(_, _, cases) => twice(cases.as_slice().len()),
         Instr::SelectTupleArity(_, _, cases) => twice(cases.as_slice().len()),
-        Instr::Label(_)
-        | Instr::Line(_)
-        | Instr::Comment(_)
-        | Instr::Move(_, _)
-        | Instr::Swap(_, _)
-        | Instr::GetList(_, _, _)
-        | Instr::GetHd(_, _)
-        | Instr::GetTl(_, _)
-        | Instr::GetTupleElement(_, _, _)
-        | Instr::PutList(_, _, _)
-        | Instr::Test(_, _, _)
-        | Instr::Jump(_)
-        | Instr::Allocate(_, _)
-        | Instr::AllocateZero(_, _)
-        | Instr::AllocateHeap(_, _, _)
-        | Instr::AllocateHeapZero(_, _, _)
-        | Instr::TestHeap(_, _)
-        | Instr::Init(_)
-        | Instr::Kill(_)
-        | Instr::Trim(_, _)
-        | Instr::Deallocate(_)
-        | Instr::Return
-        | Instr::Bif(_, _, _, _)
-        | Instr::GcBif(_, _, _, _, _)
-        | Instr::Badmatch(_)
-        | Instr::CaseEnd(_)
-        | Instr::TryCaseEnd(_)
-        | Instr::IfEnd
-        | Instr::Try(_, _)
-        | Instr::Catch(_, _)
-        | Instr::TryEnd(_)
-        | Instr::TryCase(_)
-        | Instr::CatchEnd(_)
-        | Instr::BifRaise(_, _, _)
-        | Instr::Raise(_, _, _)
-        | Instr::RawRaise => 1,
+        _ => 1,
     }
 }

@@ -5,7 +5,7 @@ use Rattle.text_forms.specs.declared.refusal.TextRefusal.{TextRefusal}
 use Rattle.asm_text.specs.Reading.{reading}
 use Rattle.text_forms.specs.Refusals.{Meets as Reads}
 use Rattle.asm_text.proofs.FewForms.{forms_few}
-use Rattle.beam_code.specs.declared.module.Item.{Item}
+use Rattle.beam_code.specs.declared.item.Item.{Item}
 use Rattle.beam_code.specs.declared.module.Function.{Function}
 use Rattle.beam_code.specs.declared.module.Module.{Module}
 use Rattle.std.specs.Prelude.{Result, Ok, Err, IfOk}

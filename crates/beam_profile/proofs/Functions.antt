@@ -5,7 +5,7 @@ use Rattle.std.specs.List.{list_any}
 use Rattle.std.proofs.lemmas.Grind.{common_steps}
 use Rattle.text_forms.specs.declared.form.Form.{Form}
 use Rattle.beam_code.specs.declared.instr.Instr.{Instr}
-use Rattle.beam_code.specs.declared.module.Item.{Item}
+use Rattle.beam_code.specs.declared.item.Item.{Item}
 use Rattle.beam_code.specs.declared.module.Function.{Function}
 use Rattle.module_forms.specs.Form.{Answer, Reads, Register, Shape, Unknown, form_of}
 use Rattle.beam_profile.specs.declared.header.Head.{Head}

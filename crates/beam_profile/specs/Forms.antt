@@ -4,7 +4,7 @@
 use Rattle.std.specs.Prelude.{◌≡◌, ℕ, Bool, true, false, if◌then◌else◌, List, [], ◌∷◌, ◌++◌, length, Some, None}
 use Rattle.std.specs.List.{list_any}
 use Rattle.text_forms.specs.declared.form.Form.{Form}
-use Rattle.beam_code.specs.declared.module.Item.{Item}
+use Rattle.beam_code.specs.declared.item.Item.{Item}
 use Rattle.beam_code.specs.declared.module.Function.{Function}
 use Rattle.module_forms.specs.Form.{Reads, form_of}
 use Rattle.beam_profile.specs.declared.header.Head.{Head}

@@ -5,7 +5,7 @@ use Rattle.beam_code.specs.declared.instr.Instr.{Instr}
 use Rattle.beam_code.specs.declared.instr.Instr.TheVariants as i
 use Rattle.beam_code.specs.declared.instr.Case.{Case}
 use Rattle.beam_code.specs.declared.instr.ArityCase.{ArityCase}
-use Rattle.beam_code.specs.declared.module.Item.{Item}
+use Rattle.beam_code.specs.declared.item.Item.{Item}
 use Rattle.beam_code.specs.declared.module.Function.{Function}
 use Rattle.beam_code.specs.Shape.{Shape, Branches, ByValue, BySize, TagOp, Tries, Catches, Target, Inside, Outside, Tests, Selects, Jumps, Tags, Computes, Calls, shape_of}
 

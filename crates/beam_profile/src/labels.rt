@@ -13,51 +13,7 @@ fn label_in(instr: &Instr) -> Option<u32>
 {
     match instr {
         Instr::Label(n) => Some(*n),
-        Instr::Line(_)
-        | Instr::Comment(_)
-        | Instr::FuncInfo(_, _, _)
-        | Instr::Move(_, _)
-        | Instr::Swap(_, _)
-        | Instr::GetList(_, _, _)
-        | Instr::GetHd(_, _)
-        | Instr::GetTl(_, _)
-        | Instr::GetTupleElement(_, _, _)
-        | Instr::PutList(_, _, _)
-        | Instr::PutTuple2(_, _)
-        | Instr::Test(_, _, _)
-        | Instr::SelectVal(_, _, _)
-        | Instr::SelectTupleArity(_, _, _)
-        | Instr::Jump(_)
-        | Instr::Allocate(_, _)
-        | Instr::AllocateZero(_, _)
-        | Instr::AllocateHeap(_, _, _)
-        | Instr::AllocateHeapZero(_, _, _)
-        | Instr::TestHeap(_, _)
-        | Instr::Init(_)
-        | Instr::Kill(_)
-        | Instr::Trim(_, _)
-        | Instr::Deallocate(_)
-        | Instr::Return
-        | Instr::Call(_, _)
-        | Instr::CallExt(_, _)
-        | Instr::CallLast(_, _, _)
-        | Instr::CallExtLast(_, _, _)
-        | Instr::CallOnly(_, _)
-        | Instr::CallExtOnly(_, _)
-        | Instr::Bif(_, _, _, _)
-        | Instr::GcBif(_, _, _, _, _)
-        | Instr::Badmatch(_)
-        | Instr::CaseEnd(_)
-        | Instr::TryCaseEnd(_)
-        | Instr::IfEnd
-        | Instr::Try(_, _)
-        | Instr::Catch(_, _)
-        | Instr::TryEnd(_)
-        | Instr::TryCase(_)
-        | Instr::CatchEnd(_)
-        | Instr::BifRaise(_, _, _)
-        | Instr::Raise(_, _, _)
-        | Instr::RawRaise => None,
+        _ => None,
     }
 }
 
@@ -67,7 +23,7 @@ fn labels_of(alloc: Global, items: &[Item]) -> Result<IndexSet<u32>, AllocError>
 {
     let mut set = IndexSet::new(alloc);
     for item in items {
-        if let Some(n) = label_in(&item.instr) {
+        if let Some(n) = label_in(item.instr()) {
             set.insert(n)?;
         }
     }
@@ -117,41 +73,7 @@ fn are_bound(own: &IndexSet<u32>, instr: &Instr) -> bool
         Instr::Bif(_, fail, _, _) | Instr::GcBif(_, fail, _, _, _) => is_bound_or_none(own, *fail),
         Instr::Call(_, label) | Instr::CallOnly(_, label) => *label != 0,
         Instr::CallLast(_, label, _) => *label != 0,
-        Instr::Label(_)
-        | Instr::Line(_)
-        | Instr::Comment(_)
-        | Instr::FuncInfo(_, _, _)
-        | Instr::Move(_, _)
-        | Instr::Swap(_, _)
-        | Instr::GetList(_, _, _)
-        | Instr::GetHd(_, _)
-        | Instr::GetTl(_, _)
-        | Instr::GetTupleElement(_, _, _)
-        | Instr::PutList(_, _, _)
-        | Instr::PutTuple2(_, _)
-        | Instr::Allocate(_, _)
-        | Instr::AllocateZero(_, _)
-        | Instr::AllocateHeap(_, _, _)
-        | Instr::AllocateHeapZero(_, _, _)
-        | Instr::TestHeap(_, _)
-        | Instr::Init(_)
-        | Instr::Kill(_)
-        | Instr::Trim(_, _)
-        | Instr::Deallocate(_)
-        | Instr::Return
-        | Instr::CallExt(_, _)
-        | Instr::CallExtLast(_, _, _)
-        | Instr::CallExtOnly(_, _)
-        | Instr::Badmatch(_)
-        | Instr::CaseEnd(_)
-        | Instr::TryCaseEnd(_)
-        | Instr::IfEnd
-        | Instr::TryEnd(_)
-        | Instr::TryCase(_)
-        | Instr::CatchEnd(_)
-        | Instr::BifRaise(_, _, _)
-        | Instr::Raise(_, _, _)
-        | Instr::RawRaise => true,
+        _ => true,
     }
 }
 
@@ -165,12 +87,12 @@ fn broken_in(
     ensures labels { IfOk result (λ line. line ≡ None → keys before.new ≡ labels.collected (keys before.old) items.now) }
 {
     for item in items {
-        if !are_bound(own, &item.instr) {
-            return Ok(Some(item.line));
+        if !are_bound(own, item.instr()) {
+            return Ok(Some(item.line()));
         }
-        if let Some(n) = label_in(&item.instr) {
+        if let Some(n) = label_in(item.instr()) {
             if !before.insert(n)? {
-                return Ok(Some(item.line));
+                return Ok(Some(item.line()));
             }
         }
     }

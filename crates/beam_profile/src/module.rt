@@ -1,5 +1,7 @@
 //! The module of a text.
+ghost use Rattle.asm_text.specs.Canonical.{has_canonical};
 ghost use Rattle.asm_text.specs.Reading.{reading};
+ghost use Rattle.std.specs.List.{list_all};
 ghost use Rattle.text_forms.specs.Refusals.{Meets as Reads};
 ghost use Rattle.text_forms.specs.declared.form.Form.{Form};
 ghost use Rattle.text_forms.specs.declared.refusal.TextRefusal.{TextRefusal};
@@ -16,7 +18,7 @@ use crate::header::{at, attributes, declared, exported, labels, module_name};
 use crate::labels::first_broken;
 use crate::sequence::functions;
 use asm_text::{Form, TextRefusal, read_forms};
-use beam_code::{Function, MOST_TEXT_BYTES, Module};
+use beam_code::{Functions, MOST_TEXT_BYTES, Module};
 use indexmap::IndexSet;
 use sqlite_items::Items;
 use std::alloc::Global;
@@ -30,7 +32,7 @@ pub const LAST_INDEX: u16 = 255;
 pub struct Outline {
     pub name: Name,
     pub exports: Items<(Name, u8)>,
-    pub functions: Items<Function>,
+    pub functions: Functions,
 }
 
 fn at_labels(
@@ -41,7 +43,8 @@ fn at_labels(
     line: u32,
     forms: &[Form],
 ) -> Result<Outline, ModuleRefusal>
-    requires { length forms.now ≤ MOST_TEXT_BYTES }
+    requires few { length forms.now ≤ MOST_TEXT_BYTES }
+    requires canonical { IsTrue (list_all has_canonical forms.now) }
     ensures { Meets result (whole.at_labels last name exports line forms.now) }
 {
     let [form, rest @ ..] = forms else {
@@ -66,7 +69,8 @@ fn at_attributes(
     line: u32,
     forms: &[Form],
 ) -> Result<Outline, ModuleRefusal>
-    requires { length forms.now ≤ MOST_TEXT_BYTES }
+    requires few { length forms.now ≤ MOST_TEXT_BYTES }
+    requires canonical { IsTrue (list_all has_canonical forms.now) }
     ensures { Meets result (whole.at_attributes last name exports line forms.now) }
 {
     let [form, rest @ ..] = forms else {
@@ -86,7 +90,8 @@ fn at_exports(
     line: u32,
     forms: &[Form],
 ) -> Result<Outline, ModuleRefusal>
-    requires { length forms.now ≤ MOST_TEXT_BYTES }
+    requires few { length forms.now ≤ MOST_TEXT_BYTES }
+    requires canonical { IsTrue (list_all has_canonical forms.now) }
     ensures { Meets result (whole.at_exports last (keys there.now) name line forms.now) }
 {
     let [form, rest @ ..] = forms else {
@@ -98,7 +103,8 @@ fn at_exports(
 
 /// The module but for its text, as far as its forms tell one by one.
 fn outline_of(alloc: Global, last: u16, forms: &[Form]) -> Result<Outline, ModuleRefusal>
-    requires { length forms.now ≤ MOST_TEXT_BYTES }
+    requires few { length forms.now ≤ MOST_TEXT_BYTES }
+    requires canonical { IsTrue (list_all has_canonical forms.now) }
     ensures { Meets result (whole.outline last forms.now) }
 {
     let there = declared(alloc, forms)?;
@@ -116,7 +122,8 @@ fn module_with(
     text: Items<u8>,
     forms: &[Form],
 ) -> Result<Module, ModuleRefusal>
-    requires { length forms.now ≤ MOST_TEXT_BYTES }
+    requires few { length forms.now ≤ MOST_TEXT_BYTES }
+    requires canonical { IsTrue (list_all has_canonical forms.now) }
     ensures { Meets result (whole.module_with last text forms.now) }
 {
     let Outline {
@@ -151,6 +158,7 @@ fn text_refused(refusal: TextRefusal) -> ModuleRefusal
 fn forms_of(alloc: Global, text: &[u8]) -> Result<Items<Form>, TextRefusal>
     ensures forms { Reads result (reading text.now) }
     ensures few { IfOk result (λ forms. length forms ≤ length text.now) }
+    ensures canonical { IfOk result (λ forms. IsTrue (list_all has_canonical forms)) }
 {
     read_forms(alloc, text)
 }

@@ -1,6 +1,10 @@
 //! The forms of functions, one after another.
 ghost use Rattle.indexmap.specs.IndexSet.{keys};
-ghost use Rattle.std.specs.Prelude.{◌≡◌, ◌+◌, ◌<◌, ◌≤◌, ◌^◌, List, length, IfOk};
+ghost use Rattle.asm_text.specs.Canonical.{has_canonical};
+ghost use Rattle.beam_code.specs.Canonical.{is_canonical_instr};
+ghost use Rattle.std.specs.List.{list_all};
+ghost use Rattle.std.specs.Prelude.{◌≡◌, ◌+◌, ◌<◌, ◌≤◌, ◌^◌, List, length, IfOk, IsTrue};
+ghost use Rattle.term_tree.specs.Term.{is_canonical};
 ghost use Rattle.beam_profile.specs.Header.{Key};
 ghost use Rattle.beam_profile.specs.Sequence as sequence;
 ghost use Rattle.beam_profile.specs.Sequence.{Added, Meets, Stepped, with_new};
@@ -8,10 +12,9 @@ ghost use Rattle.beam_profile.specs.Sequence.{Added, Meets, Stepped, with_new};
 use crate::ModuleRefusal;
 use crate::header::{Head, first_form};
 use asm_text::Form;
-use beam_code::{Function, Instr, Item};
+use beam_code::{Body, Function, Functions, Instr, Item};
 use indexmap::IndexSet;
 use module_forms::{FormRefusal, read_form};
-use sqlite_items::Items;
 use std::alloc::{AllocError, Global};
 use term_tree::Name;
 
@@ -31,8 +34,8 @@ pub struct State {
     pub owner: Name,
     pub head: Head,
     pub stage: Stage,
-    pub items: Items<Item>,
-    pub done: Items<Function>,
+    pub items: Body,
+    pub done: Functions,
 }
 
 /// Whether these are the names of the function.
@@ -88,54 +91,14 @@ fn next(owner: &Name, head: &Head, at: u32, stage: Stage, instr: &Instr) -> Opti
         Instr::FuncInfo(of, name, arity) => {
             after_info(stage, is_own(owner, head, of, name, *arity))
         }
-        Instr::Move(_, _)
-        | Instr::Swap(_, _)
-        | Instr::GetList(_, _, _)
-        | Instr::GetHd(_, _)
-        | Instr::GetTl(_, _)
-        | Instr::GetTupleElement(_, _, _)
-        | Instr::PutList(_, _, _)
-        | Instr::PutTuple2(_, _)
-        | Instr::Test(_, _, _)
-        | Instr::SelectVal(_, _, _)
-        | Instr::SelectTupleArity(_, _, _)
-        | Instr::Jump(_)
-        | Instr::Allocate(_, _)
-        | Instr::AllocateZero(_, _)
-        | Instr::AllocateHeap(_, _, _)
-        | Instr::AllocateHeapZero(_, _, _)
-        | Instr::TestHeap(_, _)
-        | Instr::Init(_)
-        | Instr::Kill(_)
-        | Instr::Trim(_, _)
-        | Instr::Deallocate(_)
-        | Instr::Return
-        | Instr::Call(_, _)
-        | Instr::CallExt(_, _)
-        | Instr::CallLast(_, _, _)
-        | Instr::CallExtLast(_, _, _)
-        | Instr::CallOnly(_, _)
-        | Instr::CallExtOnly(_, _)
-        | Instr::Bif(_, _, _, _)
-        | Instr::GcBif(_, _, _, _, _)
-        | Instr::Badmatch(_)
-        | Instr::CaseEnd(_)
-        | Instr::TryCaseEnd(_)
-        | Instr::IfEnd
-        | Instr::Try(_, _)
-        | Instr::Catch(_, _)
-        | Instr::TryEnd(_)
-        | Instr::TryCase(_)
-        | Instr::CatchEnd(_)
-        | Instr::BifRaise(_, _, _)
-        | Instr::Raise(_, _, _)
-        | Instr::RawRaise => after_other(stage),
+        _ => after_other(stage),
     }
 }
 
 /// The function that is read, with one item more.
 fn with_item(state: State, line: u32, instr: Instr) -> Result<State, ModuleRefusal>
     requires few { length state.items < 2 ^ 32 }
+    requires canonical { IsTrue (is_canonical_instr instr) }
     ensures step { (seen : List Key) → Stepped result seen (sequence.with_item state seen line instr) }
     ensures more { IfOk result (λ s. length s.items ≤ length state.items + 1) }
 {
@@ -150,7 +113,7 @@ fn with_item(state: State, line: u32, instr: Instr) -> Result<State, ModuleRefus
         done,
         ..
     } = state;
-    items.push(Item { line, instr })?;
+    items.push(Item::new(line, instr))?;
     Ok(State {
         owner,
         head,
@@ -164,9 +127,9 @@ fn with_item(state: State, line: u32, instr: Instr) -> Result<State, ModuleRefus
 fn closed(
     head: Head,
     stage: Stage,
-    items: Items<Item>,
-    done: Items<Function>,
-) -> Result<Option<Items<Function>>, AllocError>
+    items: Body,
+    done: Functions,
+) -> Result<Option<Functions>, AllocError>
     ensures { IfOk result (λ all. all ≡ sequence.closed_with head items done stage) }
 {
     let entry = match stage {
@@ -185,14 +148,14 @@ fn closed(
 }
 
 /// A function that begins behind these.
-fn begun(alloc: Global, owner: Name, head: Head, done: Items<Function>) -> State
+fn begun(alloc: Global, owner: Name, head: Head, done: Functions) -> State
     ensures { result ≡ sequence.begun owner head done }
 {
     State {
         owner,
         head,
         stage: Stage::WantsLabel,
-        items: Items::new(alloc),
+        items: Body::new(alloc),
         done,
     }
 }
@@ -262,6 +225,7 @@ fn step(
     form: &Form,
 ) -> Result<State, ModuleRefusal>
     requires few { length state.items < 2 ^ 32 }
+    requires canonical { IsTrue (is_canonical form.now.term) }
     ensures step { Stepped result (keys seen.new) (sequence.step last state (keys seen.old) form.now) }
     ensures more { IfOk result (λ s. length s.items ≤ length state.items + 1) }
 {
@@ -278,7 +242,7 @@ fn step(
 }
 
 /// The functions, where the text ends behind this line.
-fn end(line: u32, state: State) -> Result<Items<Function>, ModuleRefusal>
+fn end(line: u32, state: State) -> Result<Functions, ModuleRefusal>
     ensures { Meets result (sequence.ended line state) }
 {
     let State {
@@ -300,19 +264,20 @@ pub fn functions(
     last: u16,
     owner: &Name,
     forms: &[Form],
-) -> Result<Items<Function>, ModuleRefusal>
+) -> Result<Functions, ModuleRefusal>
     requires few { length forms.now ≤ 2 ^ 31 }
+    requires canonical { IsTrue (list_all has_canonical forms.now) }
     ensures { Meets result (sequence.functions last owner.now forms.now) }
 {
     let [first, rest @ ..] = forms else {
-        return Ok(Items::new(alloc));
+        return Ok(Functions::new(alloc));
     };
     let Some(head) = first_form(alloc, &first.term)? else {
         return Err(ModuleRefusal::Shape { line: first.line });
     };
     let mut seen = IndexSet::new(alloc);
     seen.insert((head.name.copy(alloc)?, head.arity))?;
-    let mut state = begun(alloc, owner.copy(alloc)?, head, Items::new(alloc));
+    let mut state = begun(alloc, owner.copy(alloc)?, head, Functions::new(alloc));
     let mut line = first.line;
     for form in rest {
         state = step(alloc, last, state, &mut seen, form)?;

@@ -106,11 +106,16 @@ greatest-fine _ h = tt
 
 -- each row of the table
 
-abbrev EachGives : List BuiltIn → Type 0
-EachGives [] = Unit {0}
-EachGives (b ∷ bs) = GivesTerms b × EachGives bs
+abbrev Each : (BuiltIn → Type 0) → List BuiltIn → Type 0
+Each P [] = Unit {0}
+Each P (b ∷ bs) = P b × Each P bs
 
-all_give : EachGives built_ins
+row_in : (P : BuiltIn → Type 0) (bs : List BuiltIn) (k : ℕ) (b : BuiltIn) → slice_get bs k ≡ Some b → Each P bs → P b
+row_in P [] k b e all = absurd cc
+row_in P (c ∷ bs) zero b e all = let same : c ≡ b = cc in subst P same all.0
+row_in P (c ∷ bs) (suc k) b e all = row_in P bs k b e all.1
+
+all_give : Each GivesTerms built_ins
 all_give = (
   λ vs h few. of_two-fine a.add (λ x y. exact-fine (x +ℤ y)) vs,
   (
@@ -284,11 +289,6 @@ all_give = (
   ),
 )
 
-row_of : (bs : List BuiltIn) (k : ℕ) (b : BuiltIn) → slice_get bs k ≡ Some b → EachGives bs → GivesTerms b
-row_of [] k b e all = absurd cc
-row_of (c ∷ bs) zero b e all = let same : c ≡ b = cc in subst GivesTerms same all.0
-row_of (c ∷ bs) (suc k) b e all = row_of bs k b e all.1
-
 -- the answer of a row
 
 failing : (f : Failure) (vs : List Tree) (v : Tree) (words : ℕ) → failed f vs ≡ Gives v words → ⊥
@@ -307,7 +307,7 @@ term_of b vs a.TooWide v words e fine = absurd cc
 
 pub built_ins_give_terms : BuiltInsGiveTerms
 built_ins_give_terms k b vs v words is terms few e =
-    term_of b vs (b.value vs) v words (sym (row_answers k b vs is) ∙ e) (row_of built_ins k b is all_give vs terms few)
+    term_of b vs (b.value vs) v words (sym (row_answers k b vs is) ∙ e) (row_in GivesTerms built_ins k b is all_give vs terms few)
 
 words_by : (b : BuiltIn) (vs : List Tree) (u : a.Value) (v : Tree) (words : ℕ) → answered b vs u ≡ Gives v words → words ≡ words_made b.making vs
 words_by b vs (a.Is u) v words e = cc
@@ -328,23 +328,20 @@ MayFail (First class) = Unit {0}
 abbrev FailsWell : BuiltIn → Type 0
 FailsWell b = (vs : List Tree) → length vs ≡ b.arity → b.value vs ≡ a.Fails → MayFail b.failure
 
-abbrev EachFails : List BuiltIn → Type 0
-EachFails [] = Unit {0}
-EachFails (b ∷ bs) = FailsWell b × EachFails bs
+-- two terms have a least and a greatest one
+two_given : (f : List Tree → a.Value) → ((x y : Tree) → f (x ∷ y ∷ []) ≡ a.Fails → ⊥) → (vs : List Tree) → length vs ≡ 2 → f vs ≡ a.Fails → ⊥
+two_given f gives [] n e = absurd (omega (arith, n))
+two_given f gives (x ∷ []) n e = absurd (omega (arith, n))
+two_given f gives (x ∷ y ∷ []) n e = gives x y e
+two_given f gives (x ∷ y ∷ z ∷ vs) n e = absurd (omega (arith, n))
 
 least-gives : (vs : List Tree) → length vs ≡ 2 → a.least vs ≡ a.Fails → ⊥
-least-gives [] n e = absurd (omega (arith, n))
-least-gives (x ∷ []) n e = absurd (omega (arith, n))
-least-gives (x ∷ y ∷ []) n e = cc
-least-gives (x ∷ y ∷ z ∷ vs) n e = absurd (omega (arith, n))
+least-gives vs n e = two_given a.least (λ x y h. cc) vs n e
 
 greatest-gives : (vs : List Tree) → length vs ≡ 2 → a.greatest vs ≡ a.Fails → ⊥
-greatest-gives [] n e = absurd (omega (arith, n))
-greatest-gives (x ∷ []) n e = absurd (omega (arith, n))
-greatest-gives (x ∷ y ∷ []) n e = cc
-greatest-gives (x ∷ y ∷ z ∷ vs) n e = absurd (omega (arith, n))
+greatest-gives vs n e = two_given a.greatest (λ x y h. cc) vs n e
 
-all_fail : EachFails built_ins
+all_fail : Each FailsWell built_ins
 all_fail = (
   λ vs n e. tt,
   (
@@ -518,11 +515,6 @@ all_fail = (
   ),
 )
 
-fails_row : (bs : List BuiltIn) (k : ℕ) (b : BuiltIn) → slice_get bs k ≡ Some b → EachFails bs → FailsWell b
-fails_row [] k b e all = absurd cc
-fails_row (c ∷ bs) zero b e all = let same : c ≡ b = cc in subst FailsWell same all.0
-fails_row (c ∷ bs) (suc k) b e all = fails_row bs k b e all.1
-
 by_failure : (f : Failure) (vs : List Tree) (class : RaiseClass) (reason : Tree) → MayFail f → failed f vs ≡ Fails class reason → IsFailure f vs class reason
 by_failure NoFailure vs class reason may e = absurd may
 by_failure Badarith vs class reason may e = (cc, cc)
@@ -536,4 +528,4 @@ fails_by b vs a.TooWide class reason may e = absurd cc
 
 pub built_ins_fail_by_their_rows : BuiltInsFailByTheirRows
 built_ins_fail_by_their_rows k b vs class reason is n e =
-    fails_by b vs (b.value vs) class reason (fails_row built_ins k b is all_fail vs n) (sym (row_answers k b vs is) ∙ e)
+    fails_by b vs (b.value vs) class reason (row_in FailsWell built_ins k b is all_fail vs n) (sym (row_answers k b vs is) ∙ e)

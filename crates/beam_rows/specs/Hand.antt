@@ -5,7 +5,7 @@ use Rattle.beam_code.specs.declared.instr.Callee.{Callee}
 use Rattle.beam_code.specs.declared.instr.Instr.{Instr}
 use Rattle.beam_code.specs.declared.instr.Instr.TheVariants as i
 use Rattle.beam_code.specs.declared.module.Function.{Function}
-use Rattle.beam_code.specs.declared.module.Item.{Item}
+use Rattle.beam_code.specs.declared.item.Item.{Item}
 use Rattle.beam_code.specs.declared.module.Module.{Module}
 use Rattle.beam_code.specs.Function.{Placed}
 use Rattle.beam_code.specs.State.{Local, Slot, only}

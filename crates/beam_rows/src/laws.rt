@@ -1,3 +1,5 @@
+ghost use Rattle.beam_code.specs.Canonical.{is_canonical_instr};
+ghost use Rattle.beam_code.specs.CanonicalModule.{are_canonical_functions};
 ghost use Rattle.beam_rows.specs.Gates.{
   BuiltInsRaiseThrough,
   GatesHaveTheirNumbers,
@@ -7,6 +9,9 @@ ghost use Rattle.beam_rows.specs.Gates.{
 ghost use Rattle.beam_rows.specs.Raising.{RowsRaiseThroughGates};
 ghost use Rattle.beam_rows.specs.Tables.{RowsAreWellSaid, RowsHaveTheirNumbers};
 ghost use Rattle.beam_rows.specs.Terms.{BuiltInsFailByTheirRows, BuiltInsGiveTerms, BuiltInsMakeTheirWords};
+ghost use Rattle.std.specs.Prelude.{IsTrue};
+
+use beam_code::{Item, Module};
 
 /// A law: what a built-in gives of terms is a term.
 pub fn built_ins_give_terms()
@@ -51,3 +56,17 @@ pub fn items_raise_through_their_gates()
     ensures built_ins { BuiltInsRaiseThrough }
     ensures may_raise { ItemsMayRaise }
 {}
+
+/// The terms of an item are canonical: its type keeps it.
+pub fn item_terms_are_canonical(item: &Item)
+    ensures { IsTrue (is_canonical_instr item.now.instr) }
+{
+    item.terms_are_canonical();
+}
+
+/// The terms of the items of a module are canonical: its type keeps it.
+pub fn module_terms_are_canonical(module: &Module)
+    ensures { IsTrue (are_canonical_functions module.now.functions) }
+{
+    module.functions.terms_are_canonical();
+}

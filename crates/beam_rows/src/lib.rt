@@ -8,8 +8,9 @@ mod rows;
 
 pub use laws::{
     built_ins_fail_by_their_rows, built_ins_give_terms, built_ins_make_their_words,
-    gates_have_their_numbers, items_raise_through_their_gates, rows_are_well_said,
-    rows_have_their_numbers, rows_raise_through_gates,
+    gates_have_their_numbers, item_terms_are_canonical, items_raise_through_their_gates,
+    module_terms_are_canonical, rows_are_well_said, rows_have_their_numbers,
+    rows_raise_through_gates,
 };
 pub use meanings::{
     allocations, arithmetic, calls_of_functions, choices, exceptions, registers, runs, values,

@@ -107,38 +107,14 @@ fn is_instr_known(table: &Atoms, instr: &Instr) -> bool
         Instr::CallExt(_, callee)
         | Instr::CallExtLast(_, callee, _)
         | Instr::CallExtOnly(_, callee) => is_callee_known(table, callee),
-        Instr::Label(_)
-        | Instr::Line(_)
-        | Instr::Comment(_)
-        | Instr::Swap(_, _)
-        | Instr::Jump(_)
-        | Instr::Allocate(_, _)
-        | Instr::AllocateZero(_, _)
-        | Instr::AllocateHeap(_, _, _)
-        | Instr::AllocateHeapZero(_, _, _)
-        | Instr::TestHeap(_, _)
-        | Instr::Init(_)
-        | Instr::Kill(_)
-        | Instr::Trim(_, _)
-        | Instr::Deallocate(_)
-        | Instr::Return
-        | Instr::Call(_, _)
-        | Instr::CallLast(_, _, _)
-        | Instr::CallOnly(_, _)
-        | Instr::IfEnd
-        | Instr::Try(_, _)
-        | Instr::Catch(_, _)
-        | Instr::TryEnd(_)
-        | Instr::TryCase(_)
-        | Instr::CatchEnd(_)
-        | Instr::RawRaise => true,
+        _ => true,
     }
 }
 
 fn are_items_known(table: &Atoms, items: &[Item]) -> bool
     ensures { result ≡ list_all (λ i. knows_instr table.now i.instr) items.now }
 {
-    items.iter().all(|item| is_instr_known(table, &item.instr))
+    items.iter().all(|item| is_instr_known(table, item.instr()))
 }
 
 fn are_exports_known(table: &Atoms, exports: &[(Name, u8)]) -> bool

@@ -6,7 +6,8 @@ use Rattle.text_forms.specs.declared.form.Form.{Form}
 use Rattle.text_forms.specs.declared.refusal.TextRefusal.{TextRefusal}
 use Rattle.asm_text.specs.Reading.{reading}
 use Rattle.asm_text.proofs.FewForms.{forms_few, forms_weigh, least, least-Tuple, weight}
-use Rattle.asm_text.proofs.NextCanonical.{list_all-joined}
+use Rattle.std.proofs.lemmas.List.Folds.{list_all-append}
+use Rattle.std.specs.Cmp.Derive.{both_true}
 use Rattle.term_tree.specs.declared.term.Term as t
 use Rattle.term_tree.specs.declared.term.Term.{Term, roll-Term, fold-roll-Term}
 use Rattle.term_tree.specs.declared.term.Term.TheOpen.{Term-F}
@@ -125,9 +126,8 @@ functions_canonical owner before [] few fine = refl
 functions_canonical owner before (c ∷ cs) few fine =
     let both : (is_fine c ≡ true) × (list_all is_fine cs ≡ true) = both_hold (is_fine c) (list_all is_fine cs) fine in
     let small : is_small c.value ≡ true = (both_hold (is_name c.name) (is_small c.value) both.0).1 in
-    list_all-joined is_canonical (function_terms owner before c) (functions_terms owner (before + 1) cs)
-    (function_canonical owner before c (omega (arith, few)) small)
-    (functions_canonical owner (before + 1) cs (omega (arith, few)) both.1)
+    list_all-append is_canonical (function_terms owner before c) (functions_terms owner (before + 1) cs)
+    ∙ both_true (function_canonical owner before c (omega (arith, few)) small) (functions_canonical owner (before + 1) cs (omega (arith, few)) both.1)
 
 exports_canonical : (cs : List Constant) → list_all is_canonical (map export_term cs) ≡ true
 exports_canonical [] = refl
@@ -152,8 +152,8 @@ head_canonical name exports labels h few =
 
 pub terms_canonical : (forms : List Form) (p : Plain) → guess_of forms ≡ Some p → length p.constants ≤ 4194304 → list_all is_canonical (terms_of p) ≡ true
 terms_canonical forms p guess few =
-    list_all-joined is_canonical (head_terms p.name (map export_term p.constants) (info_label (length p.constants))) (functions_terms p.name 0 p.constants)
-    (head_canonical p.name (map export_term p.constants) (info_label (length p.constants)) (exports_canonical p.constants) (omega (arith, few)))
+    list_all-append is_canonical (head_terms p.name (map export_term p.constants) (info_label (length p.constants))) (functions_terms p.name 0 p.constants)
+    ∙ both_true (head_canonical p.name (map export_term p.constants) (info_label (length p.constants)) (exports_canonical p.constants) (omega (arith, few)))
     (functions_canonical p.name 0 p.constants (omega (arith, few)) (guess-fine forms p guess).fine)
 
 -- a guess with new names is plain

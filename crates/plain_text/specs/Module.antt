@@ -1,7 +1,7 @@
 -- The module with given forms (docs/BEAM.md).
 use Rattle.std.specs.Prelude.{ℕ, pos, ◌+◌, ◌*◌, List, [], ◌∷◌, map, get_or}
 use Rattle.text_forms.specs.declared.form.Form.{Form}
-use Rattle.beam_code.specs.declared.module.Item.{Item}
+use Rattle.beam_code.specs.declared.item.Item.{Item}
 use Rattle.beam_code.specs.declared.module.Function.{Function}
 use Rattle.beam_code.specs.declared.module.Module.{Module}
 use Rattle.beam_code.specs.declared.instr.Instr.TheVariants.{Label, FuncInfo, Move, Return}

@@ -31,10 +31,10 @@ abbrev pub IsRefusedText : List ℕ → TextRefusal → Type 0
 IsRefusedText text (Memory e) = Unit {0}
 IsRefusedText text refusal = reading text ≡ Err refusal
 
-abbrev pub IsReading : List ℕ → Result (Option Module) TextRefusal → Type 0
-IsReading text (Ok (Some m)) = IsPlainText text m
-IsReading text (Ok None) = IsOtherText text
-IsReading text (Err refusal) = IsRefusedText text refusal
+abbrev pub IsPlainReading : List ℕ → Result (Option Module) TextRefusal → Type 0
+IsPlainReading text (Ok (Some m)) = IsPlainText text m
+IsPlainReading text (Ok None) = IsOtherText text
+IsPlainReading text (Err refusal) = IsRefusedText text refusal
 
 -- the text is no plain one
 abbrev pub IsNotPlain : List ℕ → Type 0

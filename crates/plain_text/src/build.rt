@@ -1,9 +1,12 @@
-ghost use Rattle.std.specs.Prelude.{◌≡◌, ◌+◌, ◌*◌, ◌<◌, ◌≤◌, ◌∷◌, ◌++◌, [], IfOk, OnOk, map, length};
+ghost use Rattle.beam_code.specs.Canonical.{is_canonical_instr};
+ghost use Rattle.plain_text.specs.Plain.{is_fine};
+ghost use Rattle.std.specs.List.{list_all};
+ghost use Rattle.std.specs.Prelude.{◌≡◌, ◌+◌, ◌*◌, ◌<◌, ◌≤◌, ◌∷◌, ◌++◌, [], IfOk, IsTrue, OnOk, map, length};
 ghost use Rattle.plain_text.specs.Module.{forms_before, items_of, functions_of, export_of, module_of};
 
 use crate::{Constant, Plain};
 use asm_text::Form;
-use beam_code::{Function, Instr, Item, MOST_TEXT_BYTES, Module, Operand, Place};
+use beam_code::{Body, Function, Functions, Instr, Item, MOST_TEXT_BYTES, Module, Operand, Place};
 use sqlite_items::Items;
 use std::alloc::{AllocError, Global};
 use term_tree::Name;
@@ -12,10 +15,11 @@ use term_tree::Name;
 const ENTRY: u32 = 2;
 
 /// Adds an item.
-fn add(items: &mut Items<Item>, line: u32, instr: Instr) -> Result<(), AllocError>
+fn add(items: &mut Body, line: u32, instr: Instr) -> Result<(), AllocError>
+    requires canonical { IsTrue (is_canonical_instr instr) }
     ensures { OnOk result (items.new ≡ items.old ++ record { line = line; instr = instr } ∷ []) }
 {
-    items.push(Item { line, instr })
+    items.push(Item::new(line, instr))
 }
 
 fn info(alloc: Global, owner: &Name, name: &Name) -> Result<Instr, AllocError>
@@ -31,13 +35,14 @@ fn items(
     owner: &Name,
     before: u32,
     constant: &Constant,
-) -> Result<Items<Item>, AllocError>
+) -> Result<Body, AllocError>
     requires few { before ≤ MOST_TEXT_BYTES }
     requires there { forms_before before + 5 < length forms.now }
+    requires fine { IsTrue (is_fine constant.now) }
     ensures { IfOk result (λ all. all ≡ items_of forms.now owner.now before constant.now) }
 {
     let first = 4 + 6 * before as usize;
-    let mut items = Items::new(alloc);
+    let mut items = Body::new(alloc);
     add(
         &mut items,
         forms[first + 1].line,
@@ -67,12 +72,13 @@ fn functions(
     forms: &[Form],
     owner: &Name,
     constants: &[Constant],
-) -> Result<Items<Function>, AllocError>
+) -> Result<Functions, AllocError>
     requires few { length constants.now ≤ MOST_TEXT_BYTES }
     requires there { forms_before (length constants.now) ≤ length forms.now }
+    requires fine { IsTrue (list_all is_fine constants.now) }
     ensures { IfOk result (λ all. all ≡ functions_of forms.now owner.now 0 constants.now) }
 {
-    let mut functions = Items::new(alloc);
+    let mut functions = Functions::new(alloc);
     for (i, constant) in constants.iter().enumerate() {
         let items = items(alloc, forms, owner, i as u32, constant)?;
         let name = constant.name.copy(alloc)?;
@@ -105,6 +111,7 @@ pub fn module(
 ) -> Result<Module, AllocError>
     requires few { length plain.constants ≤ MOST_TEXT_BYTES }
     requires there { forms_before (length plain.constants) ≤ length forms.now }
+    requires fine { IsTrue (list_all is_fine plain.constants) }
     ensures { IfOk result (λ m. m ≡ module_of text.now forms.now plain) }
 {
     let Plain { name, constants } = plain;

@@ -2,7 +2,7 @@ ghost use Rattle.std.specs.Prelude.{◌≡◌, ◌≤◌, IfOk, IsTrue, Some, le
 ghost use Rattle.std.specs.List.{list_all};
 ghost use Rattle.asm_text.specs.Canonical.{has_canonical};
 ghost use Rattle.asm_text.specs.Reading.{reading};
-ghost use Rattle.plain_text.specs.Reading.{IsReading};
+ghost use Rattle.plain_text.specs.Reading.{IsPlainReading};
 
 use crate::build::module;
 use crate::guess::guess;
@@ -18,7 +18,7 @@ fn module_in(alloc: Global, text: &[u8], forms: &[Form]) -> Result<Option<Module
     requires short { length text.now ≤ MOST_TEXT_BYTES }
     requires canonical { IsTrue (list_all has_canonical forms.now) }
     requires read { reading text.now ≡ Ok forms.now }
-    ensures { IfOk result (λ m. IsReading text.now (Ok m)) }
+    ensures { IfOk result (λ m. IsPlainReading text.now (Ok m)) }
 {
     let Some(plain) = guess(alloc, forms)? else {
         return Ok(None);
@@ -38,7 +38,7 @@ fn module_in(alloc: Global, text: &[u8], forms: &[Form]) -> Result<Option<Module
 /// the text has no forms.
 pub fn read_plain(alloc: Global, text: &[u8]) -> Result<Option<Module>, TextRefusal>
     requires { length text.now ≤ MOST_TEXT_BYTES }
-    ensures { IsReading text.now result }
+    ensures { IsPlainReading text.now result }
 {
     let forms = read_forms(alloc, text)?;
     match module_in(alloc, text, forms.as_slice()) {

@@ -41,6 +41,9 @@ module-requires-clause-few c =
 pub module-requires-clause-there : goal.module-requires-clause-there
 module-requires-clause-there c = (guess-fine c.args.forms.now c.in-Some.plain (sym c.in_ok-plain.ensures ∙ c.in-Some.is)).few
 
+pub module-requires-clause-fine : goal.module-requires-clause-fine
+module-requires-clause-fine c = (guess-fine c.args.forms.now c.in-Some.plain (sym c.in_ok-plain.ensures ∙ c.in-Some.is)).fine
+
 pub returns : goal.returns
 returns c =
     let guess : guess_of c.args.forms.now ≡ Some c.in-Some.plain = sym c.in_ok-plain.ensures ∙ c.in-Some.is in
