@@ -12,7 +12,7 @@ use Rattle.constant_code.proofs.Paths.{Enters, spends, fills, entered, passes, e
 use Rattle.mode_switch.proofs.Places.{full_step-plain}
 use Rattle.constant_code.proofs.Rows.{lt_or_le, MeansSo, begun, means_spent, means_full, means_value, Means, means}
 use Rattle.constant_code.proofs.Steps.{Runs}
-use Rattle.constant_code.specs.Image.{IsConstant, IsConstantFunction, IsConstantImage, most_items, ConstantsAreFaithful, AreConstant, ConstantsHaveMeanings, ConstantRunsArePrinted}
+use Rattle.constant_code.specs.Image.{IsConstant, IsConstantFunction, IsConstantImage, ConstantsAreFaithful, AreConstant, ConstantsHaveMeanings, ConstantRunsArePrinted}
 use Rattle.faithful_image.specs.Line.{MeansLine, meant_line, printed_line}
 use Rattle.faithful_image.proofs.LineLaw.{faithful_runs_print_their_meaning}
 use Rattle.faithful_image.specs.Agreement.{Agrees, IsSameOutcome, store_of}

@@ -3,7 +3,7 @@ use Rattle.std.proofs.Common.{◌≡◌, ℕ, ℤ, pos, ◌+◌, ◌-◌, ◌*�
 use Rattle.std.proofs.lemmas.Nat.{or_shifted}
 use Rattle.beam_code.specs.Function.{items_of}
 use Rattle.mode_switch.proofs.Places.{code_step}
-use Rattle.constant_code.specs.Image.{most_items}
+use Rattle.mode_switch.specs.declared.addresses.TheConstants.{MOST_ITEMS}
 use Rattle.constant_code.specs.Words.{upper, lower, gate_page, nop, constant_words}
 use Rattle.faithful_image.proofs.Watching.{step_off}
 use Rattle.faithful_image.specs.Watched.{watched_step}
@@ -71,7 +71,7 @@ at first j = CODE_START + 4 * (first + j)
 -- a function of this constant and this cost, whose words stand from a place on
 pub record Runs (g : Loaded) (first : ℕ) (value : ℤ) (cost : ℕ) : Type 0 where
   pub quiet : g.junk ≡ []
-  pub few : items_of g.modules ≤ most_items
+  pub few : items_of g.modules ≤ MOST_ITEMS
   pub words : (j w : ℕ) → slice_get (constant_words value cost) j ≡ Some w → slice_get g.parts.code (first + j) ≡ Some w
   pub below : at first 16 < 2 ^ 31
   pub frame : cost ≤ MOST_FRAME

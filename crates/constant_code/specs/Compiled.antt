@@ -8,10 +8,11 @@ use Rattle.beam_code.specs.declared.instr.Operand.TheVariants.{Int}
 use Rattle.beam_code.specs.declared.instr.Place.{Place}
 use Rattle.beam_code.specs.declared.instr.Place.TheVariants as place
 use Rattle.beam_code.specs.declared.module.Function.{Function}
-use Rattle.beam_code.specs.declared.module.Item.{Item}
+use Rattle.beam_code.specs.declared.item.Item.{Item}
 use Rattle.beam_code.specs.declared.module.Module.{Module}
 use Rattle.beam_code.specs.Function.{cost_of, items_of}
-use Rattle.constant_code.specs.Image.{IsConstant, most_items}
+use Rattle.constant_code.specs.Image.{IsConstant}
+use Rattle.mode_switch.specs.declared.addresses.TheConstants.{MOST_ITEMS}
 use Rattle.constant_code.specs.Words.{constant_words, constant_length}
 use Rattle.beam_code.specs.declared.module.TheConstants.{MOST_TEXT_BYTES}
 use Rattle.native_link.specs.declared.limits.TheConstants.{MOST_NATIVES}
@@ -92,7 +93,7 @@ compiled m =
 pub record IsCompilable (m : Module) : Type 0 where
   pub functions : AllByRecursion IsReady m.functions
   pub few : length m.functions ≤ MOST_NATIVES
-  pub items : items_of (m ∷ []) ≤ most_items
+  pub items : items_of (m ∷ []) ≤ MOST_ITEMS
   pub exports : length m.exports ≤ MOST_NATIVES
   pub text : length m.text ≤ MOST_TEXT_BYTES
   pub name : IsName m.name

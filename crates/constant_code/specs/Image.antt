@@ -11,6 +11,7 @@ use Rattle.faithful_image.specs.Faithful.{IsFaithful}
 use Rattle.faithful_image.specs.Line.{printed_line}
 use Rattle.faithful_image.specs.Meaning.{HasMeaning}
 use Rattle.mode_switch.specs.Call.{Call, IsCallOf}
+use Rattle.mode_switch.specs.declared.addresses.TheConstants.{MOST_ITEMS}
 use Rattle.mode_switch.specs.declared.text.TheConstants.{NOT_BUILT_STATUS}
 use Rattle.native_link.specs.declared.parts.Native.{Native}
 use Rattle.native_link.specs.Lookup.{native_of}
@@ -40,14 +41,10 @@ pub record IsConstantFunction (parts : Parts) (fid : ℕ) (f : Function) : Type 
   pub constant : IsConstant f value
   pub placed : IsPlaced parts fid (constant_words value (cost_of f))
 
--- how many items there may be: their addresses lie below the code
-abbrev pub most_items : ℕ
-most_items = 8388608
-
 pub record IsConstantImage (ms : List Module) (parts : Parts) : Type 0 where
   pub texts : parts.texts ≡ map (λ m. m.text) ms
   pub functions : (fid : ℕ) (p : Placed) → function_at ms fid ≡ Some p → IsConstantFunction parts fid p.function
-  pub items : items_of ms ≤ most_items
+  pub items : items_of ms ≤ MOST_ITEMS
   pub code : length parts.code ≤ MOST_CODE
 
 -- each function of the modules returns a constant

@@ -1,5 +1,6 @@
 -- The native words of a function that returns a small integer (docs/MACHINE.md, Entry).
 use Rattle.std.specs.Prelude.{ℕ, ℤ, pos, ◌*◌, ◌/◌, ◌%◌, ◌^◌, List, [], ◌∷◌, ◌++◌, map, false}
+use Rattle.mode_switch.specs.declared.addresses.TheConstants.{GATE_START}
 use Rattle.sparc_code.specs.declared.instruction.Instr.{Instr}
 use Rattle.sparc_code.specs.declared.instruction.Instr.TheVariants.{Sethi, Branch, Arith}
 use Rattle.sparc_code.specs.declared.instruction.Source.TheVariants.{Reg, Imm}
@@ -17,7 +18,7 @@ lower w = w % 2 ^ 10
 
 -- the upper bits of the gates' addresses
 abbrev pub gate_page : ℕ
-gate_page = 16384
+gate_page = upper GATE_START
 
 -- nothing is asked of a delay slot
 abbrev pub nop : Instr

@@ -19,7 +19,7 @@ const LENGTH: u32 = 15;
 fn moved(item: &Item) -> Option<i32>
     ensures { result ≡ moved_at (Some item.now) }
 {
-    match &item.instr {
+    match item.instr() {
         Instr::Move(Operand::Int(value), Place::X(0)) => Some(*value),
         _ => None,
     }

@@ -5,12 +5,13 @@ ghost use Rattle.std.specs.Prelude.{◌≡◌, ◌≤◌, ◌<◌, ◌^◌, ◌+
 ghost use Rattle.tagged_words.specs.Word.{small_word};
 ghost use Rattle.term_tree.specs.Small.{IsSmall};
 
+use mode_switch::GATE_START;
 use sparc_code::{ArithOp, Cond, Instr, Source, encode};
 use std::alloc::{AllocError, Global};
 use tagged_words::small;
 
 /// The upper 22 bits of the addresses of the gates.
-const GATE_PAGE: u32 = 16384;
+const GATE_PAGE: u32 = GATE_START / 1024;
 
 fn put(code: &mut Vec<u32>, instr: Instr) -> Result<(), AllocError>
     requires { IsInWidth instr }

@@ -18,15 +18,15 @@ use Rattle.plain_text.specs.declared.plain.Constant.{Constant}
 
 -- what is kept of functions in order, with so many bytes of text
 record Kept (bytes : ℕ) (ps : List Placed) : Type 0 where
-  functions : length ps ≤ bytes
-  items : items_in ps ≤ 5 * bytes
+  functions : 30 * length ps ≤ bytes
+  items : 6 * items_in ps ≤ bytes
   entries : AllByRecursion EntersItems ps
 
 kept_before : (m : Module) (forms : List Form) (name : List ℕ) (before bytes : ℕ) (cs : List Constant) (rest : List Placed) → Kept bytes rest →
-    Kept (length cs + bytes) (map (λ f. record { owner = m; function = f }) (functions_of forms name before cs) ++ rest)
+    Kept (30 * length cs + bytes) (map (λ f. record { owner = m; function = f }) (functions_of forms name before cs) ++ rest)
 kept_before m forms name before bytes [] rest k = record { functions = omega (arith, k.functions); items = omega (arith, k.items); entries = k.entries }
 kept_before m forms name before bytes (c ∷ cs) rest k =
-    let later : Kept (length cs + bytes) (map (λ f. record { owner = m; function = f }) (functions_of forms name (before + 1) cs) ++ rest) = kept_before m forms name (before + 1) bytes cs rest k in
+    let later : Kept (30 * length cs + bytes) (map (λ f. record { owner = m; function = f }) (functions_of forms name (before + 1) cs) ++ rest) = kept_before m forms name (before + 1) bytes cs rest k in
     record {
       functions = omega (arith, later.functions);
       items = omega (arith, later.items);
@@ -41,7 +41,7 @@ kept_module t m bytes rest r k =
     let few : 30 * length r.plain.constants ≤ length t = plain_few t m r in
     let P : List Function → Type 0 = λ fs. Kept (length t + bytes) (map (λ f. record { owner = m; function = f }) fs ++ rest) in
     subst P (sym (ap (λ x. x.functions) r.is))
-    (kept_more (length r.plain.constants + bytes) (length t + bytes) (map (λ f. record { owner = m; function = f }) (functions_of r.forms r.plain.name 0 r.plain.constants) ++ rest) (omega (arith, few))
+    (kept_more (30 * length r.plain.constants + bytes) (length t + bytes) (map (λ f. record { owner = m; function = f }) (functions_of r.forms r.plain.name 0 r.plain.constants) ++ rest) (omega (arith, few))
     (kept_before m r.forms r.plain.name 0 bytes r.plain.constants rest k))
 
 kept_all : (ts : List (List ℕ)) (ms : List Module) → AreReadings ts ms → Kept (total_length ts) (all_functions ms)

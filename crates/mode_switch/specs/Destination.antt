@@ -1,9 +1,9 @@
 -- Where PC may lead: gates, emulated items, native code; and where a call leads (docs/MACHINE.md, Addresses of code).
 use Rattle.std.specs.Prelude.{ℕ, ◌+◌, ◌-◌, ◌*◌, ◌/◌, ◌%◌, Bool, ◌&&◌, ◌||◌, not, Option, Some, None, List, nat_eq, nat_lt, nat_le, if◌then◌else◌, take}
+use Rattle.beam_code.specs.declared.gates.TheConstants.{BUILT_INS, FIRST_RAISER, GATE_BADARG, GATE_BUILT_INS, GATE_GUARDS, LAST_RAISER}
 use Rattle.beam_code.specs.declared.module.Module.{Module}
 use Rattle.beam_code.specs.Function.{Placed, function_at, all_functions, items_in}
 use Rattle.mode_switch.specs.declared.addresses.TheConstants.{GATE_START, GATES, ITEM_START}
-use Rattle.mode_switch.specs.declared.destination.TheConstants.{BUILTINS}
 use Rattle.mode_switch.specs.declared.destination.Destination.{Destination}
 use Rattle.mode_switch.specs.declared.destination.Destination.TheVariants.{Gate, Item, Word, Nowhere}
 use Rattle.native_link.specs.declared.limits.TheConstants.{CODE_START}
@@ -12,11 +12,14 @@ use Rattle.native_link.specs.Lookup.{native_entry_of}
 
 -- a guard is a gate for the built-ins that only compute
 abbrev pub is_raiser : ℕ → Bool
-is_raiser k = nat_le 45 k && nat_le k 48
+is_raiser k = nat_le FIRST_RAISER k && nat_le k LAST_RAISER
 
 -- the gates that are defined: those of ends and raises, built-ins, and built-ins as guards
 abbrev pub is_gate : ℕ → Bool
-is_gate n = nat_le n 16 || (nat_le 64 n && nat_lt (n - 64) BUILTINS) || (nat_le 128 n && (nat_lt (n - 128) BUILTINS && not (is_raiser (n - 128))))
+is_gate n =
+    nat_le n GATE_BADARG
+    || (nat_le GATE_BUILT_INS n && nat_lt (n - GATE_BUILT_INS) BUILT_INS)
+    || (nat_le GATE_GUARDS n && (nat_lt (n - GATE_GUARDS) BUILT_INS && not (is_raiser (n - GATE_GUARDS))))
 
 -- whether an address lies among so many words from a start
 abbrev pub within : ℕ → ℕ → ℕ → Bool

@@ -1,10 +1,15 @@
 -- The numbers of the machine (docs/MACHINE.md).
-use Rattle.std.specs.Prelude.{◌≡◌}
+use Rattle.std.specs.Prelude.{◌≡◌, ◌+◌, ◌-◌, ◌*◌, Bool, true, false, ◌++◌, length, map, replicate}
+use Rattle.beam_code.specs.declared.gates.TheConstants.{BUILT_INS, FIRST_RAISER, LAST_RAISER}
+use Rattle.beam_code.specs.BuiltIns.{BuiltIn, First, built_ins}
 use Rattle.beam_code.specs.State.{x_registers}
-use Rattle.mode_switch.specs.declared.addresses.TheConstants.{GATE_START, GATES, ITEM_START, X_START, X_WORDS, STACK_FLOOR, STACK_END, STOP_LINK, MOST_REDUCTIONS, MOST_WORDS}
+use Rattle.mode_switch.specs.declared.addresses.TheConstants.{GATE_START, GATES, ITEM_START, X_START, X_WORDS, STACK_FLOOR, STACK_END, STOP_LINK, MOST_ITEMS, MOST_REDUCTIONS, MOST_WORDS}
 use Rattle.mode_switch.specs.declared.text.TheConstants.{VALUE_STATUS, END_STATUS, NOT_BUILT_STATUS}
 use Rattle.native_link.specs.declared.limits.TheConstants.{CODE_START}
 use Rattle.tagged_words.specs.declared.addresses.TheConstants.{LITERAL_START, HEAP_START, MOST_ATOM_NUMBERS}
+
+abbrev pub only_raises : BuiltIn → Bool
+only_raises b = elim b.failure [ First class ↦ true | _ ↦ false ]
 
 pub record TheNumbersAre : Type 0 where
   -- the starts of the address ranges
@@ -23,6 +28,11 @@ pub record TheNumbersAre : Type 0 where
   pub x_words : X_WORDS ≡ 256
   pub x_registers : x_registers ≡ 256
   pub atoms : MOST_ATOM_NUMBERS ≡ 67108864
+  -- the items reach up to the code
+  pub most_items : ITEM_START + 4 * MOST_ITEMS ≡ CODE_START
+  -- the built-ins, and those of them that only raise
+  pub built_in_count : length built_ins ≡ BUILT_INS
+  pub raisers : map only_raises built_ins ≡ replicate FIRST_RAISER false ++ (replicate (LAST_RAISER + 1 - FIRST_RAISER) true ++ replicate (BUILT_INS - (LAST_RAISER + 1)) false)
   -- the limits of a run
   pub reductions : MOST_REDUCTIONS ≡ 1000000000
   pub words : MOST_WORDS ≡ 16777216

@@ -21,5 +21,6 @@ pub const STOP_LINK: u32 = 0x00FF_FFF8;
 pub const MOST_REDUCTIONS: u32 = 1_000_000_000;
 /// The most words of a heap, and of a stack.
 pub const MOST_WORDS: u32 = 16_777_216;
-/// The most items of all functions of an image: more than its texts have bytes for.
-pub const MOST_ITEMS: u32 = 0x1000_0000;
+/// The most items of all functions of an image: the addresses of so many end where code begins,
+/// and the texts of an image have bytes for fewer.
+pub const MOST_ITEMS: u32 = 8_388_608;

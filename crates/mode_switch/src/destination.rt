@@ -4,6 +4,7 @@ ghost use Rattle.mode_switch.specs.Destination.{destination_of, within, is_gate 
 ghost use Rattle.std.specs.Prelude.{◌≡◌};
 
 use crate::addresses::{GATE_START, GATES, ITEM_START};
+use beam_code::{BUILT_INS, FIRST_RAISER, GATE_BADARG, GATE_BUILT_INS, GATE_GUARDS, LAST_RAISER};
 use native_link::CODE_START;
 
 /// Where an address leads: to a gate, an item or a code word, each by its number, or to none.
@@ -41,19 +42,18 @@ pub(crate) fn destination_at(items: u32, words: u32, at: u32) -> Destination
     }
 }
 
-/// How many built-ins there are.
-pub(crate) const BUILTINS: u32 = 57;
-
 /// The built-ins that only raise: they have no gate as guards.
 fn is_raiser(number: u32) -> bool
     ensures { result ≡ is_raiser_number number }
 {
-    45 <= number && number <= 48
+    FIRST_RAISER <= number && number <= LAST_RAISER
 }
 
 /// Whether a gate is defined.
 pub(crate) fn is_gate(n: u32) -> bool
     ensures { result ≡ is_gate_number n }
 {
-    n <= 16 || 64 <= n && n - 64 < BUILTINS || 128 <= n && n - 128 < BUILTINS && !is_raiser(n - 128)
+    n <= GATE_BADARG
+        || GATE_BUILT_INS <= n && n - GATE_BUILT_INS < BUILT_INS
+        || GATE_GUARDS <= n && n - GATE_GUARDS < BUILT_INS && !is_raiser(n - GATE_GUARDS)
 }

@@ -85,13 +85,13 @@ abbrev pub giving_flags : Regs → ℕ → ℕ → Bool → Bool → Regs
 giving_flags regs rd value overflow carry = giving (record regs { n = is_negative value; z = nat_eq value 0; v = overflow; c = carry }) rd value
 
 -- what a load finds
-abbrev pub loaded : Regs → ℕ → ℕ → Option ℕ → Effect
-loaded regs rd address (Some word) = Goes (giving regs rd word)
-loaded regs rd address None = Faults (Range address)
+abbrev pub load_found : Regs → ℕ → ℕ → Option ℕ → Effect
+load_found regs rd address (Some word) = Goes (giving regs rd word)
+load_found regs rd address None = Faults (Range address)
 
 -- B.1 Load Integer: the address has to be a multiple of 4, before the memory is looked at
 abbrev pub load_effect : (ℕ → Option ℕ) → Regs → ℕ → ℕ → Effect
-load_effect load regs rd address = if is_aligned address then loaded regs rd address (load address) else Faults (Unaligned address)
+load_effect load regs rd address = if is_aligned address then load_found regs rd address (load address) else Faults (Unaligned address)
 
 -- B.4 Store Integer
 abbrev pub store_effect : (ℕ → Bool) → Regs → ℕ → ℕ → Effect
