@@ -1,0 +1,4 @@
+pub mod Names
+pub mod Flow
+pub mod Rows
+pub mod Walks

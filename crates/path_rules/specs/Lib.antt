@@ -1,0 +1,11 @@
+pub mod Tags
+pub mod Registers
+pub mod Points
+pub mod Rules
+pub mod Frames
+pub mod Asked
+pub mod Sites
+pub mod BuiltIns
+pub mod Index
+pub mod Same
+pub mod Profile

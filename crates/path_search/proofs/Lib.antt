@@ -1,0 +1,4 @@
+pub mod Going
+pub mod Listing
+pub mod Lowest
+pub mod Taking
