@@ -52,6 +52,7 @@ fn measured<F: Files>(alloc: Global, files: &mut F, words: &[String]) -> Result<
         "all" => all(alloc, files),
         "read_file" => reading::files_read(alloc, files, word(words, 1)?, number(words, 2)?),
         "read_text" => reading::forms_read(alloc, files, word(words, 1)?, number(words, 2)?),
+        "read_module" => reading::modules_read(alloc, files, word(words, 1)?, number(words, 2)?),
         "read_image" => images::images_read(alloc, number(words, 1)?, number(words, 2)?),
         "machine_run" => images::steps_run(alloc, number(words, 1)?),
         "sparc_step" => steps::steps_done(alloc, number(words, 1)?),
@@ -80,6 +81,7 @@ fn all<F: Files>(alloc: Global, files: &mut F) -> Result<String> {
     let mut lines = String::new(alloc);
     add(&mut lines, reading::files_read(alloc, files, "e.S", 3))?;
     add(&mut lines, reading::forms_read(alloc, files, "fact.S", 3))?;
+    add(&mut lines, reading::modules_read(alloc, files, "fact.S", 3))?;
     add(&mut lines, images::images_read(alloc, 1000, 2))?;
     add(&mut lines, images::steps_run(alloc, 4543))?;
     add(&mut lines, steps::steps_done(alloc, 100_000))?;

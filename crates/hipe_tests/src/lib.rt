@@ -8,7 +8,13 @@ mod images;
 #[cfg(test)]
 mod machines;
 #[cfg(test)]
+mod modules;
+#[cfg(test)]
 mod plain_modules;
+#[cfg(test)]
+mod rows_of_data;
+#[cfg(test)]
+mod rows_of_flow;
 #[cfg(test)]
 mod sparc_steps;
 #[cfg(test)]

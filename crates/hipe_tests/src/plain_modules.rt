@@ -41,8 +41,8 @@ fn told(alloc: Global, text: &[u8]) -> Result<&'static str, AllocError> {
 }
 
 fn put_item(out: &mut String, item: &Item) -> Result<(), AllocError> {
-    let line = item.line;
-    match &item.instr {
+    let line = item.line();
+    match item.instr() {
         Instr::Label(label) => write!(out, ", {line} label {label}"),
         Instr::FuncInfo(owner, name, arity) => {
             write!(
