@@ -1,4 +1,5 @@
 pub mod Names
+pub mod Numbers
 pub mod Flow
 pub mod Rows
 pub mod Walks

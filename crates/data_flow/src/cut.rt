@@ -2,6 +2,7 @@
 
 ghost use Rattle.std.specs.Prelude.{◌≡◌, ◌++◌, map, OnOk};
 ghost use Rattle.data_flow.specs.Flow.{changed, cut as cut_of, cut_to, cut_ways, lacks as lacks_of, land, moves_at, same_point};
+ghost use Rattle.data_flow.specs.Numbers.{mixed, number_of, spread};
 
 use crate::flow::{Change, Flow, Need, Point, Step};
 use crate::names::{join, meet, same};
@@ -93,14 +94,24 @@ fn is_same(a: Point, b: Point) -> bool
     a.item == b.item && same(a.names, b.names) && a.count == b.count
 }
 
-fn mixed(hash: u64, word: u128) -> u64 {
-    let low = (word & 0xFFFF_FFFF_FFFF_FFFF) as u64;
-    let high = (word >> 64) as u64;
-    let hash = (hash ^ low ^ high).wrapping_mul(0x9E37_79B9_7F4A_7C15);
+/// Brings the high bits of a product down.
+fn spread(hash: u64) -> u64
+    ensures { result ≡ spread hash }
+{
     hash ^ (hash >> 29)
 }
 
-fn number(point: Point) -> u64 {
+fn mixed(hash: u64, word: u128) -> u64
+    ensures { result ≡ mixed hash word }
+{
+    let low = (word % (1 << 64)) as u64;
+    let high = (word >> 64) as u64;
+    spread((hash ^ low ^ high).wrapping_mul(0x9E37_79B9_7F4A_7C15))
+}
+
+fn number(point: Point) -> u64
+    ensures { result ≡ number_of point }
+{
     let names = point.names;
     let hash = (u64::from(point.item) << 32) ^ u64::from(point.count);
     let hash = mixed(mixed(hash, names.a), names.b);
@@ -115,6 +126,8 @@ impl<'a> Walk for Cut<'a> {
     ghost ways = { λ s. cut_ways s.flow.now s.needs.now };
 
     ghost item_of = { λ s p. p.item };
+
+    ghost number_of = { λ s. number_of };
 
     fn start(&self, _alloc: Global) -> Result<Point, AllocError> {
         let first = Point {
@@ -138,6 +151,10 @@ impl<'a> Walk for Cut<'a> {
     }
 
     fn is_apart(&self, _a: &Point, _b: &Point) -> bool {
+        false
+    }
+
+    fn may_end(&self) -> bool {
         false
     }
 

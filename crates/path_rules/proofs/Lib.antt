@@ -6,3 +6,10 @@ pub mod Lengths
 pub mod Adding
 pub mod Effective
 pub mod Forgets
+pub mod Passing
+pub mod Owners
+pub mod Tables
+pub mod Alone
+pub mod Filling
+pub mod Profiled
+pub mod Staying

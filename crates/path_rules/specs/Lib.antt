@@ -9,3 +9,7 @@ pub mod BuiltIns
 pub mod Index
 pub mod Same
 pub mod Profile
+pub mod FrameTable
+pub mod Ranges
+pub mod Laws
+pub mod Numbers

@@ -1,6 +1,8 @@
 -- The profile: modules that are told apart by their names, are not too large, and keep every rule (docs/BEAM.md, Rules).
 use Rattle.std.specs.Prelude.{◌≡◌, ℕ, ◌+◌, ◌≤◌, false, List, [], ◌∷◌, length}
 use Rattle.std.specs.List.{Contains}
+use Rattle.std.proofs.Math.Bool.{Bool-set}
+use mathlib.Core.HLevel.{×_prop, Unit-prop}
 use Rattle.beam_code.specs.Lined.{Lined}
 use Rattle.beam_code.specs.declared.module.Module.{Module}
 use Rattle.beam_code.specs.Function.{Placed, all_functions, is_given}
@@ -22,6 +24,11 @@ units_in (f ∷ fs) = units_of f.function.items + units_in fs
 abbrev pub AreDistinct : List Module → Type 0
 AreDistinct [] = Unit {0}
 AreDistinct (m ∷ ms) = (is_given ms m.name ≡ false) × AreDistinct ms
+
+-- which is one fact
+pub distinct_prop : (ms : List Module) → IsProp (AreDistinct ms)
+distinct_prop [] = Unit-prop
+distinct_prop (m ∷ ms) = ×_prop (Bool-set _ _) (distinct_prop ms)
 
 -- at most so many modules, and so many units in a function and in all
 pub record AreFew (ms : List Module) : Type 0 where

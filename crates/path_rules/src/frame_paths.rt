@@ -23,6 +23,7 @@ use sqlite_items::Items;
 use std::alloc::{AllocError, Global};
 
 /// The paths of a function by their stack and tags, for one rule.
+#[derive(Drop)]
 pub struct FramePaths<'a> {
     pub(crate) alloc: Global,
     pub(crate) modules: &'a [Module],
@@ -76,7 +77,7 @@ impl<'a> FramePaths<'a> {
         }
     }
 
-    fn label_item(&self, label: u32) -> Option<u32>
+    pub fn label_item(&self, label: u32) -> Option<u32>
         ensures { result ≡ label_in self.now.function.now label }
     {
         self.sites.labels.get(&label).copied()
@@ -170,7 +171,7 @@ impl<'a> FramePaths<'a> {
         }
     }
 
-    fn may_raise(&self, item: u32) -> bool
+    pub fn may_raise(&self, item: u32) -> bool
         ensures { (i : item_type.Lined) → slice_get self.now.function.now.items item ≡ Some i → result ≡ gates.may_raise self.now.modules.now (shape_of i.instr) }
     {
         match self.sites.may_raise.get(item as usize) {

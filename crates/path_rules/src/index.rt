@@ -1,16 +1,33 @@
 // Functions of modules, by name.
 
-ghost use Rattle.std.specs.Prelude.{◌≡◌, ℕ, ◌<◌, ◌^◌, List, IfOk, length};
+ghost use Rattle.std.specs.Prelude.{◌≡◌, ℕ, ◌<◌, ◌^◌, ◌&&◌, List, IfOk, length};
 ghost use Rattle.std.specs.List.{list_any};
 ghost use Rattle.indexmap.specs.IndexMap.{get};
 ghost use Rattle.indexmap.specs.IndexSet.{contains};
 ghost use Rattle.beam_code.specs.Function.{first_that, same_name};
-ghost use Rattle.path_rules.specs.Index.{Key, same_key, is_called, has_key, entry_label, same_target, begins_at};
+ghost use Rattle.path_rules.specs.Index.{AreTables, IsIndexOf, IsTableOf, Key, same_key, is_called, has_key, entry_label, same_target, begins_at};
 
 use beam_code::{Function, Instr, Module};
 use indexmap::{IndexMap, IndexSet};
+use sqlite_items::Items;
 use std::alloc::{AllocError, Global};
 use term_tree::Name;
+
+/// What a module exports and has, and where calls of its functions begin, to be looked up.
+#[derive(Drop)]
+pub(crate) struct Table {
+    pub(crate) exports: IndexSet<(Name, u32)>,
+    pub(crate) functions: IndexSet<(Name, u32)>,
+    pub(crate) targets: IndexSet<(u32, u32)>,
+}
+
+/// The functions of modules, to be looked up: by their names, and within a module by the labels
+/// where their calls begin.
+#[derive(Drop)]
+pub struct Index {
+    pub(crate) numbers: IndexMap<Name, u32>,
+    pub(crate) tables: Items<Table>,
+}
 
 /// The number of the first module of each name.
 pub(crate) fn module_numbers(
@@ -87,4 +104,50 @@ pub(crate) fn target_set(
         }
     }
     Ok(set)
+}
+
+fn table_of(alloc: Global, owner: &Module) -> Result<Table, AllocError>
+    ensures { IfOk result (λ table. IsTableOf owner.now table) }
+{
+    let exports = export_set(alloc, owner.exports.as_slice())?;
+    let functions = function_set(alloc, owner.functions.as_slice())?;
+    let targets = target_set(alloc, owner.functions.as_slice())?;
+    Ok(Table {
+        exports,
+        functions,
+        targets,
+    })
+}
+
+fn tables_of(alloc: Global, modules: &[Module]) -> Result<Items<Table>, AllocError>
+    ensures { IfOk result (λ tables. AreTables modules.now tables) }
+{
+    let mut tables = Items::new(alloc);
+    for module in modules {
+        let table = table_of(alloc, module)?;
+        tables.push(table)?;
+    }
+    Ok(tables)
+}
+
+impl Table {
+    /// Whether the module exports a function of this name and arity and has it.
+    pub(crate) fn defines(&self, alloc: Global, name: &Name, arity: u32) -> Result<bool, AllocError>
+        ensures { IfOk result (λ defined. defined ≡ (contains same_key self.now.exports (name.now, arity) && contains same_key self.now.functions (name.now, arity))) }
+    {
+        let key = (name.copy(alloc)?, arity);
+        Ok(self.exports.contains(&key) && self.functions.contains(&key))
+    }
+}
+
+impl Index {
+    /// What is looked up of these modules, made once for all of them.
+    pub fn new(alloc: Global, modules: &[Module]) -> Result<Index, AllocError>
+        requires few { length modules.now < 2 ^ 32 }
+        ensures { IfOk result (IsIndexOf modules.now) }
+    {
+        let numbers = module_numbers(alloc, modules)?;
+        let tables = tables_of(alloc, modules)?;
+        Ok(Index { numbers, tables })
+    }
 }

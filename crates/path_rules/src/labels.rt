@@ -30,7 +30,7 @@ fn size_labels(alloc: Global, other: u32, cases: &[ArityCase]) -> Result<Items<u
 }
 
 /// The labels that an item leads to itself.
-pub(crate) fn labels_of(alloc: Global, instr: &Instr) -> Result<Items<u32>, AllocError>
+pub fn labels_of(alloc: Global, instr: &Instr) -> Result<Items<u32>, AllocError>
     ensures { IfOk result (λ labels. labels ≡ points.labels_of (shape_of instr.now)) }
 {
     match instr {
@@ -44,45 +44,6 @@ pub(crate) fn labels_of(alloc: Global, instr: &Instr) -> Result<Items<u32>, Allo
                 Items::from_slice(alloc, &[*fail])
             }
         }
-        Instr::Label(_)
-        | Instr::Line(_)
-        | Instr::Comment(_)
-        | Instr::FuncInfo(_, _, _)
-        | Instr::Move(_, _)
-        | Instr::Swap(_, _)
-        | Instr::GetList(_, _, _)
-        | Instr::GetHd(_, _)
-        | Instr::GetTl(_, _)
-        | Instr::GetTupleElement(_, _, _)
-        | Instr::PutList(_, _, _)
-        | Instr::PutTuple2(_, _)
-        | Instr::Allocate(_, _)
-        | Instr::AllocateZero(_, _)
-        | Instr::AllocateHeap(_, _, _)
-        | Instr::AllocateHeapZero(_, _, _)
-        | Instr::TestHeap(_, _)
-        | Instr::Init(_)
-        | Instr::Kill(_)
-        | Instr::Trim(_, _)
-        | Instr::Deallocate(_)
-        | Instr::Return
-        | Instr::Call(_, _)
-        | Instr::CallExt(_, _)
-        | Instr::CallLast(_, _, _)
-        | Instr::CallExtLast(_, _, _)
-        | Instr::CallOnly(_, _)
-        | Instr::CallExtOnly(_, _)
-        | Instr::Badmatch(_)
-        | Instr::CaseEnd(_)
-        | Instr::TryCaseEnd(_)
-        | Instr::IfEnd
-        | Instr::Try(_, _)
-        | Instr::Catch(_, _)
-        | Instr::TryEnd(_)
-        | Instr::TryCase(_)
-        | Instr::CatchEnd(_)
-        | Instr::BifRaise(_, _, _)
-        | Instr::Raise(_, _, _)
-        | Instr::RawRaise => Ok(Items::new(alloc)),
+        _ => Ok(Items::new(alloc)),
     }
 }

@@ -96,34 +96,7 @@ pub(crate) fn uses_pass(ask: Asked, instr: &Instr) -> bool
         Instr::BifRaise(class, reason, _) | Instr::Raise(class, reason, _) => {
             operand_passes(ask, class) && operand_passes(ask, reason)
         }
-        Instr::Label(_)
-        | Instr::Line(_)
-        | Instr::Comment(_)
-        | Instr::FuncInfo(_, _, _)
-        | Instr::Jump(_)
-        | Instr::Allocate(_, _)
-        | Instr::AllocateZero(_, _)
-        | Instr::AllocateHeap(_, _, _)
-        | Instr::AllocateHeapZero(_, _, _)
-        | Instr::TestHeap(_, _)
-        | Instr::Init(_)
-        | Instr::Kill(_)
-        | Instr::Trim(_, _)
-        | Instr::Deallocate(_)
-        | Instr::Return
-        | Instr::Call(_, _)
-        | Instr::CallExt(_, _)
-        | Instr::CallLast(_, _, _)
-        | Instr::CallExtLast(_, _, _)
-        | Instr::CallOnly(_, _)
-        | Instr::CallExtOnly(_, _)
-        | Instr::IfEnd
-        | Instr::Try(_, _)
-        | Instr::Catch(_, _)
-        | Instr::TryEnd(_)
-        | Instr::TryCase(_)
-        | Instr::CatchEnd(_)
-        | Instr::RawRaise => true,
+        _ => true,
     }
 }
 

@@ -19,6 +19,8 @@ impl Walk for FramePaths<'_> {
 
     ghost item_of = { λ w. frame_item };
 
+    ghost number_of = { λ w. frame_item };
+
     fn start(&self, _alloc: Global) -> Result<FramePoint, AllocError> {
         Ok(self.start_point())
     }

@@ -1,15 +1,28 @@
 -- Whether paths go on from a point, by the row of its item; what a round brings.
-use Rattle.std.proofs.Common.{◌≡◌, ℕ, suc, ◌<◌, ◌≤◌, ◌⊎◌, inl, inr, Bool, true, false, ◌&&◌, not, refl, ap, sym, ◌∙◌, arith, subst, List, [], length, get_or, take, Some, ◌+◌, slice_get, nat_lt}
+use Rattle.std.proofs.Common.{◌≡◌, ℕ, suc, ◌<◌, ◌≤◌, ◌⊎◌, inl, inr, Bool, true, false, ◌&&◌, not, refl, ap, sym, ◌∙◌, arith, subst, List, [], ◌∷◌, ◌++◌, length, get_or, take, Option, Some, None, ◌||◌, ◌+◌, ◌↔◌, if◌then◌else◌, slice_get, nat_lt}
 use Rattle.std.specs.List.{Contains}
 use Rattle.std.proofs.lemmas.Bool.Decides.{nat_tests}
-use Rattle.std.proofs.lemmas.List.{append-nil, get_or-take, length-take, length-append, get_or_append_left}
+use Rattle.std.proofs.lemmas.List.{get_or-take, length-take, length-append, get_or_append_left}
 use Rattle.std.proofs.lemmas.Option.{slice_get_read, get_or_from_slice_get, slice_get_cases}
 use Rattle.std.proofs.Math.Seq.{take-append_seam}
 use Rattle.paths.specs.Rules.{Ways, GoesOn, Reached}
 use Rattle.paths.specs.Search.{IsFront, Level, Round}
 use Rattle.paths.proofs.Rounds.{round_next}
 use Rattle.paths.proofs.Tests.{any_found, none_in}
-use Rattle.path_search.specs.Found.{IsByItem, IsListed, Expands, IsClashed, AddsAll, HasTwins, row_of, goes_on_by_row, meets, option_any}
+use Rattle.path_search.specs.Found.{AddsAll, Crowds, Expands, HasMore, IsAhead, IsByItem, IsCrowded, IsListed, goes_on_by_row, meets, option_any, row_of}
+
+-- where no path ends another, none of these does
+pub none_meets : {P : Type 0} (w : Ways P) → ((x : P) (y : P) → w.apart x y ≡ false) → (xs : List P) (end : ℕ) (row : List ℕ) (x : P) → false ≡ meets (λ p. w.apart p x) xs end row
+none_meets {P = P} w none xs end [] x = refl
+none_meets {P = P} w none xs end (k ∷ row) x = none_meets w none xs end row x ∙ ap (λ b. b || meets (λ p. w.apart p x) xs end row) (at (nat_lt k end) (slice_get xs k))
+  where
+    some : (o : Option P) → false ≡ option_any (λ p. w.apart p x) o
+    some None = refl
+    some (Some p) = sym (none p x)
+
+    at : (b : Bool) (o : Option P) → false ≡ (b && option_any (λ p. w.apart p x) o)
+    at true o = some o
+    at false o = refl
 
 module _ {P : Type 0} (w : Ways P) (item : P → ℕ) (by_item : IsByItem w item) where
   -- the place of a point among the first ones
@@ -71,32 +84,58 @@ module _ {P : Type 0} (w : Ways P) (item : P → ℕ) (by_item : IsByItem w item
     pub goes_on : goes_on_by_row w item xs rows end x ≡ true → GoesOn w (Contains (take end xs)) x
     goes_on t = let h = both_no (w.breaks x) (meets (λ p. w.apart p x) xs end (row_of rows (item x))) t in record { fine = h.0; alone = alone_is h.1 }
 
-    module _ (at : ℕ) (is : slice_get xs at ≡ Some x) where
-      same : (y : P) → slice_get xs at ≡ Some y → x ≡ y
-      same y e = let f : Some x ≡ Some y = sym is ∙ e in cc
+    goes_not : goes_on_by_row w item xs rows end x ≡ false → GoesOn w (Contains (take end xs)) x → ⊥
+    goes_not f g = elim (no_and (w.breaks x) (meets (λ p. w.apart p x) xs end (row_of rows (item x))) f) [
+      | inl broken ↦ (let fine = g.fine in cc)
+      | inr some ↦ (let y = not_alone some in let e = g.alone y.0 y.1 in let t = y.2 in cc)
+    ]
 
-      nothing_new : (GoesOn w (Contains (take end xs)) x → ⊥) → Expands w (take end xs) at xs xs
-      nothing_new no_way = record {
-        front = ([], sym (append-nil xs));
-        sound = λ z e y c. inl c;
-        full = λ z e g. absurd (no_way (subst (λ (q : P). GoesOn w (Contains (take end xs)) q) (sym (same z e)) g));
-      }
+    pub goes_is : (goes : Bool) → goes ≡ goes_on_by_row w item xs rows end x → (goes ≡ true) ↔ GoesOn w (Contains (take end xs)) x
+    goes_is goes e = (λ t. goes_on (sym e ∙ t), λ g. by goes e g)
+      where
+        by : (b : Bool) → b ≡ goes_on_by_row w item xs rows end x → GoesOn w (Contains (take end xs)) x → b ≡ true
+        by true e g = refl
+        by false e g = absurd (goes_not (sym e) g)
 
-      pub ends_here : goes_on_by_row w item xs rows end x ≡ false → Expands w (take end xs) at xs xs
-      ends_here f = elim (no_and (w.breaks x) (meets (λ p. w.apart p x) xs end (row_of rows (item x))) f) [
-        | inl broken ↦ nothing_new (λ g. let fine = g.fine in cc)
-        | inr some ↦ nothing_new (λ g. let y = not_alone some in let e = g.alone y.0 y.1 in let t = y.2 in cc)
-      ]
+module _ {P : Type 0} (w : Ways P) (level : List P) (at : ℕ) (xs fresh : List P) (goes : Bool) (a : IsAhead w level at xs goes fresh) where
+  is_from : (x : P) → slice_get xs at ≡ Some x → a.from ≡ x
+  is_from x e = let f : Some a.from ≡ Some x = sym a.is ∙ e in cc
 
-      pub goes_all : GoesOn w (Contains (take end xs)) x → (zs : List P) → AddsAll xs (w.graph.moves x) zs → Expands w (take end xs) at xs zs
-      goes_all g zs a = record {
-        front = a.front;
-        sound = λ z e y c. elim (a.sound y c) [
-          | inl old ↦ inl old
-          | inr new ↦ inr (subst (λ (q : P). GoesOn w (Contains (take end xs)) q × Contains (w.graph.moves q) y) (same z e) (g, new))
-        ];
-        full = λ z e f y m. a.full y (subst (λ (q : P). Contains (w.graph.moves q) y) (sym (same z e)) m);
-      }
+  -- what is ahead is where paths go on to
+  fresh_is : (y : P) → Contains fresh y → GoesOn w (Contains level) a.from × Contains (w.graph.moves a.from) y
+  fresh_is y c = by goes refl
+    where
+      by : (b : Bool) → goes ≡ b → GoesOn w (Contains level) a.from × Contains (w.graph.moves a.from) y
+      by true e = (a.goes_on.0 e, subst (λ (l : List P). Contains l y) (a.moves ∙ ap (λ b. if b then w.graph.moves a.from else []) e) c)
+      by false e = absurd (nothing (subst (λ (l : List P). Contains l y) (a.moves ∙ ap (λ b. if b then w.graph.moves a.from else []) e) c))
+        where
+          nothing : Contains [] y → ⊥
+          nothing c = let low = c.1 in omega arith
+
+  pub expands_of : (zs : List P) (went new_went : List Bool) → AddsAll xs fresh zs → new_went ≡ went ++ goes ∷ [] → Expands w level at xs zs went new_went
+  expands_of zs went new_went all noted = record {
+    front = all.front;
+    sound = λ x e y c. elim (all.sound y c) [
+      | inl old ↦ inl old
+      | inr new ↦ inr (subst (λ (q : P). GoesOn w (Contains level) q × Contains (w.graph.moves q) y) (is_from x e) (fresh_is y new))
+    ];
+    full = λ x e g y m.
+        let goes_on : goes ≡ true = a.goes_on.1 (subst (λ (q : P). GoesOn w (Contains level) q) (sym (is_from x e)) g) in
+        all.full y
+        (subst (λ (l : List P). Contains l y) (sym (a.moves ∙ ap (λ b. if b then w.graph.moves a.from else []) goes_on)) (subst (λ (q : P). Contains (w.graph.moves q) y) (sym (is_from x e)) m));
+    flag = goes;
+    noted = noted;
+    flag_is = λ x e. subst (λ (q : P). (goes ≡ true) ↔ GoesOn w (Contains level) q) (is_from x e) a.goes_on;
+  }
+
+  pub crowded_of : (item : P → ℕ) (limit : Option ℕ) → Crowds item limit xs fresh → IsCrowded w item limit level at xs
+  crowded_of item limit h = record {
+    from = a.from;
+    is = a.is;
+    points = h.0;
+    passes = h.1;
+    of = λ y c. elim (h.2 y c) [ inl old ↦ inl old | inr new ↦ inr (fresh_is y new) ];
+  }
 
 module _ {P : Type 0} (w : Ways P) (item : P → ℕ) where
   -- the points of a round begin with those from before
@@ -112,8 +151,8 @@ module _ {P : Type 0} (w : Ways P) (item : P → ℕ) where
   there : (ys : List P) (k : ℕ) → k < length ys → (x : P) × (slice_get ys k ≡ Some x)
   there ys k low = elim (slice_get_cases ys k).1 [ inl r ↦ (r.0, r.2) | inr r ↦ absurd (let high = r.0 in omega arith) ]
 
-  pub round_step : (xs ys zs : List P) (k : ℕ) → Round w xs k ys → k < length xs → Expands w (take (length xs) ys) k ys zs → Round w xs (k + 1) zs
-  round_step xs ys zs k r low e =
+  pub round_step : (xs ys zs : List P) (k : ℕ) (went new : List Bool) → Round w xs k ys → k < length xs → Expands w (take (length xs) ys) k ys zs went new → Round w xs (k + 1) zs
+  round_step xs ys zs k went new r low e =
       let long = front_long xs ys r.front in
       let x = there ys k (omega arith) in
       let level = front_take xs ys r.front in
@@ -121,19 +160,19 @@ module _ {P : Type 0} (w : Ways P) (item : P → ℕ) where
       (λ y c. subst (λ (l : List P). Contains ys y ⊎ (GoesOn w (Contains l) x.0 × Contains (w.graph.moves x.0) y)) level (e.sound x.0 x.1 y c))
       (λ g y m. e.full x.0 x.1 (subst (λ (l : List P). GoesOn w (Contains l) x.0) (sym level) g) y m)
 
-  -- where two points at one item meet, both are reached
-  pub clash_reached : (xs ys : List P) (done k : ℕ) → Level w xs done → Round w xs k ys → k < length xs
-      → IsClashed w item (take (length xs) ys) k ys → HasTwins item w
-  clash_reached xs ys done k l r low c =
-      let level = front_take xs ys r.front in
-      let at : c.from ≡ get_or xs k c.from = front_of xs ys r.front k low c.from c.is in
-      let from : Contains xs c.from = (k, low, sym at) in
-      let goes : GoesOn w (Contains xs) c.from = subst (λ (q : List P). GoesOn w (Contains q) c.from) level c.goes_on in
-      let goes' : GoesOn w (Reached w l.n) c.from = record { fine = goes.fine; alone = λ y q. goes.alone y (l.there y q) } in
-      let new : (y : P) → Contains (w.graph.moves c.from) y → Reached w (suc l.n) y = λ y m. inr (c.from, l.here c.from from, goes', m) in
-      let old : (y : P) → Contains ys y → Reached w (suc l.n) y = λ y q. elim (r.sound y q) [
-        | inl before ↦ inl (l.here y before)
-        | inr after ↦ inr (after.0, l.here after.0 after.1, record { fine = after.2.fine; alone = λ z h. after.2.alone z (l.there z h) }, after.3)
-      ] in
-      let two = c.clash in
-      (suc l.n, two.0, two.1, elim two.2 [ inl o ↦ old two.0 o | inr m ↦ new two.0 m ], new two.1 two.3, two.4, two.5)
+  -- what passes the limit in a round is reached
+  pub crowd_reached : (xs ys : List P) (done k : ℕ) (limit : Option ℕ) → Level w xs done → Round w xs k ys → k < length xs
+      → IsCrowded w item limit (take (length xs) ys) k ys → HasMore w item limit
+  crowd_reached xs ys done k limit l r low c = record { points = c.points; reached = λ y q. (suc l.n, elim (c.of y q) [ inl o ↦ old y o | inr m ↦ new y m.0 m.1 ]); passes = c.passes }
+    where
+      from : Contains xs c.from
+      from = (k, low, sym (front_of xs ys r.front k low c.from c.is))
+
+      next : (x : P) → Contains xs x → GoesOn w (Contains xs) x → (y : P) → Contains (w.graph.moves x) y → Reached w (suc l.n) y
+      next x q g y m = inr (x, l.here x q, record { fine = g.fine; alone = λ z h. g.alone z (l.there z h) }, m)
+
+      new : (y : P) → GoesOn w (Contains (take (length xs) ys)) c.from → Contains (w.graph.moves c.from) y → Reached w (suc l.n) y
+      new y g m = next c.from from (subst (λ (q : List P). GoesOn w (Contains q) c.from) (front_take xs ys r.front) g) y m
+
+      old : (y : P) → Contains ys y → Reached w (suc l.n) y
+      old y q = elim (r.sound y q) [ inl before ↦ inl (l.here y before) | inr after ↦ next after.0 after.1 after.2 y after.3 ]

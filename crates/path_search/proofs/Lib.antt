@@ -1,4 +1,10 @@
-pub mod Going
 pub mod Listing
+pub mod Chains
+pub mod Keeping
+pub mod Going
+pub mod Flags
 pub mod Lowest
 pub mod Taking
+pub mod Moving
+pub mod Twins
+pub mod Carrying

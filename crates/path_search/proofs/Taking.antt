@@ -1,9 +1,9 @@
 -- A list of points is taken over, from its end.
-use Rattle.std.proofs.Common.{◌≡◌, ℕ, ◌⊎◌, inl, inr, ap, sym, ◌∙◌, subst, List, [], ◌∷◌, ◌++◌, append_assoc, arith}
+use Rattle.std.proofs.Common.{◌≡◌, ℕ, ◌⊎◌, inl, inr, ap, sym, ◌∙◌, subst, List, [], ◌∷◌, ◌++◌, append_assoc, arith, Option}
 use Rattle.std.specs.List.{Contains}
 use Rattle.std.proofs.lemmas.List.Elements.{Contains-append_left, Contains-push, Contains-push_cases}
 use Rattle.std.proofs.lemmas.List.{append-nil}
-use Rattle.path_search.specs.Found.{Adds, AddsAll, Clash, HasTwin}
+use Rattle.path_search.specs.Found.{Adds, AddsAll, Crowds}
 
 -- of the points ps beside xs, those of the list `left` are still to be taken over into zs
 pub record Taking {P : Type 0} (xs ps zs left : List P) : Type 0 where
@@ -54,5 +54,12 @@ module _ {P : Type 0} where
       nothing : (y : P) → Contains [] y → ⊥
       nothing y c = let low = c.1 in omega arith
 
-  pub taking_clash : (item : P → ℕ) (xs ps zs left : List P) (p : P) → Taking xs ps zs (left ++ p ∷ []) → HasTwin item zs p → Clash item xs ps
-  taking_clash item xs ps zs left p t h = (h.0, p, t.sound h.0 h.1, last_is xs ps zs left p t, h.2, h.3)
+  pub taking_crowds : (item : P → ℕ) (limit : Option ℕ) (xs ps zs left : List P) (p : P) → Taking xs ps zs (left ++ p ∷ []) → Crowds item limit zs (p ∷ []) → Crowds item limit xs ps
+  taking_crowds item limit xs ps zs left p t h = (
+    h.0,
+    h.1,
+    λ y c. elim (h.2 y c) [
+      | inl old ↦ t.sound y old
+      | inr new ↦ elim (Contains-push_cases [] p y new) [ inl none ↦ absurd (let low = none.1 in omega arith) | inr e ↦ inr (subst (λ (q : P). Contains ps q) e (last_is xs ps zs left p t)) ]
+    ],
+  )

@@ -1,7 +1,7 @@
-ghost use Rattle.std.specs.Prelude.{◌≡◌, ◌<◌, ◌++◌, [], ◌∷◌, length, IsTrue, OnOk, IfOk, Err, None, slice_set};
+ghost use Rattle.std.specs.Prelude.{◌≡◌, ◌<◌, ◌%◌, ◌+◌, ◌++◌, [], ◌∷◌, ◌↔◌, length, IsTrue, OnOk, IfOk, Err, Ok, Some, None, ℕ, slice_get, slice_index, slice_set, if◌then◌else◌, false, true, ◌≤◌};
 ghost use Rattle.std.specs.List.{Contains};
-ghost use Rattle.path_search.specs.Found.{IsListed, Adds, HasTwin, Widens, Pushes, row_of};
-ghost use Rattle.path_search.specs.declared.found.Standing.TheVariants.{Known, Second};
+ghost use Rattle.path_search.specs.Found.{Adds, Crowds, IsListed, Widens, has_item, row_of};
+ghost use Rattle.path_search.specs.Kept.{IsEmpty, IsKept, IsChained, Pushes, bucket_in};
 ghost use Rattle.path_search.specs.declared.rounds.Stop.TheVariants.{States};
 
 use crate::rounds::Stop;
@@ -9,26 +9,18 @@ use crate::walk::Walk;
 use sqlite_items::Items;
 use std::alloc::{AllocError, Global};
 
-/// The points that were found, in order, and for each item the places of its points in that order.
-/// To look a point up: its bucket by its number has the place of the last point that went there,
-/// and each has that of the one before, counted from 1. What these say is looked at again, so
-/// nothing has to hold of them.
+/// The points that were found, in order, each once; for each item the places of its points in that
+/// order; and from which of the first points paths go on. To look a point up: its bucket by its
+/// number has the place of the last point that went there, and each has that of the one before,
+/// counted from 1.
 #[derive(Drop)]
 pub(crate) struct Found<P> {
     pub(crate) points: Items<P>,
     pub(crate) rows: Vec<Items<usize>>,
+    pub(crate) went: Vec<bool>,
     older: Vec<usize>,
     buckets: Vec<usize>,
     seconds: u32,
-}
-
-/// How a point stands to those that are there: it is there itself, or another at its item, or none
-/// that was seen.
-#[derive(Clone, Copy)]
-enum Standing {
-    Known,
-    Second,
-    New,
 }
 
 /// The places of the points of an item.
@@ -41,81 +33,81 @@ pub(crate) fn row(rows: &[Items<usize>], item: u32) -> &[usize]
     }
 }
 
-/// The number there, or 0.
-fn number_at(list: &[usize], at: usize) -> usize {
-    match list.get(at) {
-        Some(n) => *n,
-        None => 0,
+/// Whether the new point is at this place.
+fn is_at<W: Walk>(walk: &W, points: &[W::Point], at: usize, new: &W::Point) -> bool
+    ensures { IsTrue result ↔ (slice_get points.now at ≡ Some new.now) }
+{
+    match points.get(at) {
+        None => false,
+        Some(there) => walk.is_same(there, new),
     }
 }
 
-/// How the new point stands to the one at a place, if there is one.
-fn stands<W: Walk>(walk: &W, points: &[W::Point], at: usize, new: &W::Point) -> Standing
-    ensures known { result ≡ Known → Contains points.now new.now }
-    ensures second { result ≡ Second → HasTwin (W.item_of walk.now) points.now new.now }
+/// Whether the point is there: goes through its bucket, the last place first.
+fn is_known<W: Walk>(walk: &W, found: &Found<W::Point>, new: &W::Point) -> bool
+    requires some { 0 < length found.now.buckets.items }
+    requires chained { IsChained (bucket_in (W.number_of walk.now) found.now.buckets.items) found.now.points found.now.older.items found.now.buckets.items }
+    ensures { IsTrue result ↔ Contains found.now.points new.now }
 {
-    match points.get(at) {
-        None => Standing::New,
-        Some(there) => {
-            if walk.item(there) != walk.item(new) {
-                Standing::New
-            } else if walk.is_same(there, new) {
-                Standing::Known
+    let mut at = found.buckets[bucket_of(&found.buckets, walk.number(new))];
+    while at > 0 {
+        if is_at(walk, found.points.as_slice(), at - 1, new) {
+            return true;
+        }
+        at = found.older[at - 1];
+    }
+    false
+}
+
+/// The bucket of a number.
+fn bucket_of(buckets: &[usize], number: u64) -> usize
+    requires { 0 < length buckets.now }
+    ensures { result ≡ number % length buckets.now }
+{
+    (number % buckets.len() as u64) as usize
+}
+
+/// Whether a point of this item is there.
+fn has_item<W: Walk>(walk: &W, found: &Found<W::Point>, item: u32) -> bool
+    requires { IsListed (W.item_of walk.now) found.now.points found.now.rows.items }
+    ensures { result ≡ has_item (W.item_of walk.now) item found.now.points }
+{
+    let _ = walk;
+    row(&found.rows, item).len() > 0
+}
+
+/// So many points that are not the first of their item, and this one if it is none. Past the limit
+/// it stops.
+fn counted(seconds: u32, second: bool, limit: Option<u32>) -> Result<u32, Stop>
+    ensures counted { IfOk result (λ n. (most : ℕ) → limit ≡ Some most → n ≡ (if second then 1 else 0) + seconds) }
+    ensures states { result ≡ Err States → (second ≡ true) × (most : ℕ) × (limit ≡ Some most) × (most ≤ seconds) }
+{
+    if !second {
+        return Ok(seconds);
+    }
+    match limit {
+        None => Ok(seconds),
+        Some(most) => {
+            if seconds < most {
+                Ok(seconds + 1)
             } else {
-                Standing::Second
+                Err(Stop::States)
             }
         }
     }
 }
 
-/// Whether the point is in this bucket.
-fn is_in_bucket<W: Walk>(
-    walk: &W,
-    points: &[W::Point],
-    older: &[usize],
-    last: usize,
-    new: &W::Point,
-) -> bool
-    ensures { IsTrue result → Contains points.now new.now }
-{
-    let mut at = last;
-    while at > 0 {
-        if let Standing::Known = stands(walk, points, at - 1, new) {
-            return true;
-        }
-        let next = number_at(older, at - 1);
-        at = if next < at { next } else { 0 };
-    }
-    false
-}
-
-/// How the new point stands to all that are there.
-fn stands_to<W: Walk>(walk: &W, found: &Found<W::Point>, new: &W::Point) -> Standing
-    ensures known { result ≡ Known → Contains found.now.points new.now }
-    ensures second { result ≡ Second → HasTwin (W.item_of walk.now) found.now.points new.now }
-{
-    let points = found.points.as_slice();
-    let last = number_at(&found.buckets, found.bucket_of(walk.number(new)));
-    if is_in_bucket(walk, points, &found.older, last, new) {
-        return Standing::Known;
-    }
-    match row(&found.rows, walk.item(new)).first() {
-        None => Standing::New,
-        Some(first) => stands(walk, points, *first, new),
-    }
-}
-
 impl<P: Drop> Found<P> {
-    /// No points, and buckets for a search among so many items.
-    pub(crate) fn new(alloc: Global, items: usize) -> Result<Found<P>, AllocError>
-        ensures points { IfOk result (λ found. found.points ≡ []) }
-        ensures rows { IfOk result (λ found. found.rows.items ≡ []) }
+    /// No points, and at least so many buckets.
+    fn new(alloc: Global, buckets: usize) -> Result<Found<P>, AllocError>
+        ensures { IfOk result (λ found. IsEmpty found) }
     {
         Ok(Found {
             points: Items::new(alloc),
             rows: Vec::new(alloc),
+            went: Vec::new(alloc),
             older: Vec::new(alloc),
-            buckets: vec![in alloc; 0usize; items.max(1024)]?,
+            buckets: vec![in alloc; 0usize; buckets.max(1024)]?,
             seconds: 0,
         })
     }
@@ -126,17 +118,14 @@ impl<P: Drop> Found<P> {
         let Found { points, .. } = self;
         points
     }
-
-    fn bucket_of(&self, number: u64) -> usize {
-        match self.buckets.len() as u64 {
-            0 => 0,
-            n => (number % n) as usize,
-        }
-    }
 }
 
 /// The list with empty rows behind it, up to that of this item.
-fn widen(alloc: Global, rows: &mut Vec<Items<usize>>, item: usize) -> Result<(), AllocError>
+pub(crate) fn widen<T: Drop>(
+    alloc: Global,
+    rows: &mut Vec<Items<T>>,
+    item: usize,
+) -> Result<(), AllocError>
     ensures { OnOk result (Widens item rows.old.items rows.new.items) }
 {
     while rows.len() <= item {
@@ -153,19 +142,39 @@ fn note(rows: &mut [Items<usize>], item: usize, at: usize) -> Result<(), AllocEr
     rows[item].push(at)
 }
 
+/// Puts this place to the front of a bucket, and tells the one that was there.
+fn link(buckets: &mut [usize], bucket: usize, place: usize) -> usize
+    requires { bucket < length buckets.old }
+    ensures old { result ≡ slice_index buckets.old bucket }
+    ensures new { buckets.new ≡ slice_set buckets.old bucket place }
+{
+    let before = buckets[bucket];
+    buckets[bucket] = place;
+    before
+}
+
 impl<P: Drop> Found<P> {
-    /// Adds a point of this item and number.
-    fn push(&mut self, alloc: Global, new: P, item: usize, number: u64) -> Result<(), AllocError>
-        ensures { OnOk result (Pushes item new self.old.points self.old.rows.items self.new.points self.new.rows.items) }
+    /// Adds a point of this item and bucket, where so many are then not the first of their item.
+    fn push(
+        &mut self,
+        alloc: Global,
+        new: P,
+        item: usize,
+        bucket: usize,
+        seconds: u32,
+    ) -> Result<(), AllocError>
+        requires { bucket < length self.old.buckets.items }
+        ensures { OnOk result (Pushes item bucket seconds new self.old self.new) }
     {
         let at = self.points.len();
-        let bucket = self.bucket_of(number);
-        self.older.push(number_at(&self.buckets, bucket))?;
-        if bucket < self.buckets.len() {
-            self.buckets[bucket] = at.wrapping_add(1);
-        }
+        let place = match at.checked_add(1) {
+            Some(place) => place,
+            None => return Err(AllocError),
+        };
+        self.older.push(link(&mut self.buckets, bucket, place))?;
         widen(alloc, &mut self.rows, item)?;
         note(&mut self.rows, item, at)?;
+        self.seconds = seconds;
         self.points.push(new)
     }
 }
@@ -179,29 +188,33 @@ pub(crate) fn add<W: Walk>(
     new: W::Point,
     limit: Option<u32>,
 ) -> Result<(), Stop>
-    requires listed { IsListed (W.item_of walk.now) found.old.points found.old.rows.items }
-    ensures listed { OnOk result (IsListed (W.item_of walk.now) found.new.points found.new.rows.items) }
+    requires { IsKept (W.item_of walk.now) (W.number_of walk.now) limit found.old }
+    ensures kept { OnOk result (IsKept (W.item_of walk.now) (W.number_of walk.now) limit found.new) }
     ensures adds { OnOk result (Adds found.old.points new found.new.points) }
-    ensures states { result ≡ Err States → HasTwin (W.item_of walk.now) found.old.points new }
-    ensures limit { result ≡ Err States → limit ≡ None → ⊥ }
+    ensures went { OnOk result (found.new.went.items ≡ found.old.went.items) }
+    ensures states { result ≡ Err States → Crowds (W.item_of walk.now) limit found.old.points (new ∷ []) }
 {
-    match stands_to(walk, found, &new) {
-        Standing::Known => return Ok(()),
-        Standing::Second => {
-            if let Some(most) = limit {
-                if found.seconds >= most {
-                    return Err(Stop::States);
-                }
-                found.seconds += 1;
-            }
-        }
-        Standing::New => {}
+    if is_known(walk, found, &new) {
+        return Ok(());
     }
-    let item = walk.item(&new) as usize;
-    let number = walk.number(&new);
-    match found.push(alloc, new, item, number) {
+    let item = walk.item(&new);
+    let second = has_item(walk, found, item);
+    let seconds = match counted(found.seconds, second, limit) {
+        Ok(seconds) => seconds,
+        Err(stop) => return Err(stop),
+    };
+    let bucket = bucket_of(&found.buckets, walk.number(&new));
+    match found.push(alloc, new, item as usize, bucket, seconds) {
         Ok(()) => Ok(()),
         Err(_) => Err(Stop::Memory),
+    }
+}
+
+/// So many buckets serve a search among so many items, with so many further points at most.
+fn buckets_for(items: usize, limit: Option<u32>) -> usize {
+    match limit {
+        None => items,
+        Some(most) => items.max((most as usize / 8).min(1 << 16)),
     }
 }
 
@@ -211,13 +224,15 @@ pub(crate) fn begin<W: Walk>(
     walk: &W,
     start: W::Point,
     items: usize,
+    limit: Option<u32>,
 ) -> Result<Found<W::Point>, AllocError>
-    ensures listed { IfOk result (λ found. IsListed (W.item_of walk.now) found.points found.rows.items) }
+    ensures kept { IfOk result (IsKept (W.item_of walk.now) (W.number_of walk.now) limit) }
     ensures points { IfOk result (λ found. found.points ≡ start ∷ []) }
+    ensures went { IfOk result (λ found. found.went.items ≡ []) }
 {
     let item = walk.item(&start) as usize;
-    let number = walk.number(&start);
-    let mut found = Found::new(alloc, items)?;
-    found.push(alloc, start, item, number)?;
+    let mut found = Found::new(alloc, buckets_for(items, limit))?;
+    let bucket = bucket_of(&found.buckets, walk.number(&start));
+    found.push(alloc, start, item, bucket, 0)?;
     Ok(found)
 }

@@ -1,7 +1,8 @@
-ghost use Rattle.std.specs.Prelude.{◌≡◌, ◌<◌, ◌≤◌, ◌&&◌, OnOk, IfOk, Err, None, length, nat_lt, slice_get, take};
+ghost use Rattle.std.specs.Prelude.{◌≡◌, ◌<◌, ◌≤◌, ◌&&◌, OnOk, IfOk, Err, None, [], length, nat_lt, slice_get, take};
 ghost use Rattle.paths.specs.Rules.{Says};
 ghost use Rattle.paths.specs.Search.{IsReach, Level, Round, least_of};
-ghost use Rattle.path_search.specs.Found.{IsListed, AddsAll, Clash, Expands, IsClashed, HasTwins, goes_on_by_row, meets, is_bad, option_any};
+ghost use Rattle.path_search.specs.Found.{AddsAll, AreDistinct, AreFlags, AreLatest, Crowds, Expands, HasMore, IsAhead, IsCrowded, IsListed, goes_on_by_row, is_bad, meets, option_any, row_of};
+ghost use Rattle.path_search.specs.Kept.{IsKept};
 ghost use Rattle.path_search.specs.declared.rounds.Stop.TheVariants.{States};
 
 use crate::found::{Found, add, begin, row};
@@ -44,6 +45,22 @@ fn is_ended<W: Walk>(
     row.iter().any(|at| ends(walk, points, *at, end, to))
 }
 
+/// Whether one of the first `end` points that is at its item ends a path to this one.
+fn is_ended_at<W: Walk>(
+    walk: &W,
+    points: &[W::Point],
+    rows: &[Items<usize>],
+    end: usize,
+    to: &W::Point,
+) -> bool
+    ensures { result ≡ meets (λ p. (W.ways walk.now).apart p to.now) points.now end (row_of rows.now (W.item_of walk.now to.now)) }
+{
+    if !walk.may_end() {
+        return false;
+    }
+    is_ended(walk, points, row(rows, walk.item(to)), end, to)
+}
+
 /// Whether paths go on from this point, where the first `end` are those of no more moves.
 fn goes_on<W: Walk>(
     walk: &W,
@@ -54,7 +71,7 @@ fn goes_on<W: Walk>(
 ) -> bool
     ensures { result ≡ goes_on_by_row (W.ways walk.now) (W.item_of walk.now) points.now rows.now end from.now }
 {
-    !walk.breaks(from) && !is_ended(walk, points, row(rows, walk.item(from)), end, from)
+    !walk.breaks(from) && !is_ended_at(walk, points, rows, end, from)
 }
 
 /// Adds these points, the last first.
@@ -65,11 +82,11 @@ fn take<W: Walk>(
     found: &mut Found<W::Point>,
     limit: Option<u32>,
 ) -> Result<(), Stop>
-    requires { IsListed (W.item_of walk.now) found.old.points found.old.rows.items }
-    ensures listed { OnOk result (IsListed (W.item_of walk.now) found.new.points found.new.rows.items) }
+    requires { IsKept (W.item_of walk.now) (W.number_of walk.now) limit found.old }
+    ensures kept { OnOk result (IsKept (W.item_of walk.now) (W.number_of walk.now) limit found.new) }
     ensures adds { OnOk result (AddsAll found.old.points fresh.old found.new.points) }
-    ensures states { result ≡ Err States → Clash (W.item_of walk.now) found.old.points fresh.old }
-    ensures limit { result ≡ Err States → limit ≡ None → ⊥ }
+    ensures went { OnOk result (found.new.went.items ≡ found.old.went.items) }
+    ensures states { result ≡ Err States → Crowds (W.item_of walk.now) limit found.old.points fresh.old }
 {
     while let Some(point) = fresh.pop() {
         match add(alloc, walk, found, point, limit) {
@@ -78,6 +95,30 @@ fn take<W: Walk>(
         }
     }
     Ok(())
+}
+
+/// Whether paths go on from the point at this place, where the first `end` are those of no more
+/// moves, and where they then go on to.
+fn ahead<W: Walk>(
+    alloc: Global,
+    walk: &W,
+    found: &Found<W::Point>,
+    at: usize,
+    end: usize,
+) -> Result<(bool, Items<W::Point>), AllocError>
+    requires at { at < end }
+    requires end { end ≤ length found.now.points }
+    requires listed { IsListed (W.item_of walk.now) found.now.points found.now.rows.items }
+    ensures { IfOk result (λ r. IsAhead (W.ways walk.now) (take end found.now.points) at found.now.points r.0 r.1) }
+{
+    let points = found.points.as_slice();
+    let from = &points[at];
+    let mut fresh = Items::new(alloc);
+    if !goes_on(walk, points, &found.rows, end, from) {
+        return Ok((false, fresh));
+    }
+    walk.moves(from, &mut fresh)?;
+    Ok((true, fresh))
 }
 
 /// Goes on from the point at this place, where the first `end` are those of no more moves.
@@ -91,19 +132,16 @@ fn expand<W: Walk>(
 ) -> Result<(), Stop>
     requires at { at < end }
     requires end { end ≤ length found.old.points }
-    requires listed { IsListed (W.item_of walk.now) found.old.points found.old.rows.items }
-    ensures listed { OnOk result (IsListed (W.item_of walk.now) found.new.points found.new.rows.items) }
-    ensures expands { OnOk result (Expands (W.ways walk.now) (take end found.old.points) at found.old.points found.new.points) }
-    ensures states { result ≡ Err States → IsClashed (W.ways walk.now) (W.item_of walk.now) (take end found.old.points) at found.old.points }
-    ensures limit { result ≡ Err States → limit ≡ None → ⊥ }
+    requires kept { IsKept (W.item_of walk.now) (W.number_of walk.now) limit found.old }
+    ensures kept { OnOk result (IsKept (W.item_of walk.now) (W.number_of walk.now) limit found.new) }
+    ensures expands { OnOk result (Expands (W.ways walk.now) (take end found.old.points) at found.old.points found.new.points found.old.went.items found.new.went.items) }
+    ensures states { result ≡ Err States → IsCrowded (W.ways walk.now) (W.item_of walk.now) limit (take end found.old.points) at found.old.points }
 {
-    let points = found.points.as_slice();
-    let from = &points[at];
-    if !goes_on(walk, points, &found.rows, end, from) {
-        return Ok(());
-    }
-    let mut fresh = Items::new(alloc);
-    match walk.moves(from, &mut fresh) {
+    let (goes, mut fresh) = match ahead(alloc, walk, found, at, end) {
+        Ok(ahead) => ahead,
+        Err(_) => return Err(Stop::Memory),
+    };
+    match found.went.push(goes) {
         Ok(()) => {}
         Err(_) => return Err(Stop::Memory),
     }
@@ -123,11 +161,13 @@ fn round<W: Walk>(
 ) -> Result<(), Stop>
     requires level { Level (W.ways walk.now) found.old.points done }
     requires done { done ≤ length found.old.points }
-    requires listed { IsListed (W.item_of walk.now) found.old.points found.old.rows.items }
-    ensures listed { OnOk result (IsListed (W.item_of walk.now) found.new.points found.new.rows.items) }
+    requires kept { IsKept (W.item_of walk.now) (W.number_of walk.now) limit found.old }
+    requires latest { AreLatest (W.ways walk.now) found.old.points done }
+    requires flags { AreFlags (W.ways walk.now) found.old.points done found.old.went.items }
+    ensures kept { OnOk result (IsKept (W.item_of walk.now) (W.number_of walk.now) limit found.new) }
     ensures round { OnOk result (Round (W.ways walk.now) found.old.points (length found.old.points) found.new.points) }
-    ensures states { result ≡ Err States → HasTwins (W.item_of walk.now) (W.ways walk.now) }
-    ensures limit { result ≡ Err States → limit ≡ None → ⊥ }
+    ensures flags { OnOk result (AreFlags (W.ways walk.now) found.new.points (length found.old.points) found.new.went.items) }
+    ensures states { result ≡ Err States → HasMore (W.ways walk.now) (W.item_of walk.now) limit }
 {
     let end = found.points.len();
     for at in done..end {
@@ -147,11 +187,13 @@ fn spread<W: Walk>(
     limit: Option<u32>,
 ) -> Result<(), Stop>
     requires level { Level (W.ways walk.now) found.old.points 0 }
-    requires listed { IsListed (W.item_of walk.now) found.old.points found.old.rows.items }
-    ensures listed { OnOk result (IsListed (W.item_of walk.now) found.new.points found.new.rows.items) }
+    requires kept { IsKept (W.item_of walk.now) (W.number_of walk.now) limit found.old }
+    requires latest { AreLatest (W.ways walk.now) found.old.points 0 }
+    requires went { found.old.went.items ≡ [] }
+    ensures kept { OnOk result (IsKept (W.item_of walk.now) (W.number_of walk.now) limit found.new) }
     ensures reach { OnOk result (IsReach (W.ways walk.now) found.new.points) }
-    ensures states { result ≡ Err States → HasTwins (W.item_of walk.now) (W.ways walk.now) }
-    ensures limit { result ≡ Err States → limit ≡ None → ⊥ }
+    ensures flags { OnOk result (AreFlags (W.ways walk.now) found.new.points (length found.new.points) found.new.went.items) }
+    ensures states { result ≡ Err States → HasMore (W.ways walk.now) (W.item_of walk.now) limit }
 {
     let mut done = 0;
     while done < found.points.len() {
@@ -166,22 +208,22 @@ fn spread<W: Walk>(
 }
 
 /// All the points to which paths come.
-fn reach<W: Walk>(
+pub(crate) fn reach<W: Walk>(
     alloc: Global,
     walk: &W,
     items: usize,
     limit: Option<u32>,
 ) -> Result<Found<W::Point>, Stop>
-    ensures listed { IfOk result (λ found. IsListed (W.item_of walk.now) found.points found.rows.items) }
+    ensures kept { IfOk result (IsKept (W.item_of walk.now) (W.number_of walk.now) limit) }
     ensures reach { IfOk result (λ found. IsReach (W.ways walk.now) found.points) }
-    ensures states { result ≡ Err States → HasTwins (W.item_of walk.now) (W.ways walk.now) }
-    ensures limit { result ≡ Err States → limit ≡ None → ⊥ }
+    ensures flags { IfOk result (λ found. AreFlags (W.ways walk.now) found.points (length found.points) found.went.items) }
+    ensures states { result ≡ Err States → HasMore (W.ways walk.now) (W.item_of walk.now) limit }
 {
     let start = match walk.start(alloc) {
         Ok(start) => start,
         Err(_) => return Err(Stop::Memory),
     };
-    let mut found = match begin(alloc, walk, start, items) {
+    let mut found = match begin(alloc, walk, start, items, limit) {
         Ok(found) => found,
         Err(_) => return Err(Stop::Memory),
     };
@@ -223,9 +265,9 @@ fn lowest<W: Walk>(walk: &W, points: &[W::Point], rows: &[Items<usize>]) -> Opti
     best
 }
 
-/// The points to which paths come and the lowest item where the rule is broken. `items`, the
-/// number of items that are expected, is asked for memory alone. Where there is a limit, past so
-/// many points that are not the first of their item there is no answer.
+/// The points to which paths come, each once, and the lowest item where the rule is broken.
+/// `items`, the number of items that are expected, is asked for memory alone. Where there is a
+/// limit, past so many points that are not the first of their item there is no answer.
 pub fn search<W: Walk>(
     alloc: Global,
     walk: &W,
@@ -233,9 +275,9 @@ pub fn search<W: Walk>(
     limit: Option<u32>,
 ) -> Result<(Items<W::Point>, Option<u32>), Stop>
     ensures reach { IfOk result (λ r. IsReach (W.ways walk.now) r.0) }
+    ensures once { IfOk result (λ r. AreDistinct r.0) }
     ensures says { IfOk result (λ r. Says (W.ways walk.now) (W.item_of walk.now) r.1) }
-    ensures states { result ≡ Err States → HasTwins (W.item_of walk.now) (W.ways walk.now) }
-    ensures limit { result ≡ Err States → limit ≡ None → ⊥ }
+    ensures states { result ≡ Err States → HasMore (W.ways walk.now) (W.item_of walk.now) limit }
 {
     match reach(alloc, walk, items, limit) {
         Ok(found) => {

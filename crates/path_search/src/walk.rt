@@ -14,6 +14,8 @@ pub trait Walk {
 
     ghost item_of: { Self → Self.Point → ℕ };
 
+    ghost number_of: { Self → Self.Point → ℕ };
+
     /// Where each path begins.
     fn start(&self, alloc: Global) -> Result<Self::Point, AllocError>
         ensures { IfOk result (λ p. p ≡ (ways self.now).graph.start) };
@@ -34,6 +36,14 @@ pub trait Walk {
     fn is_apart(&self, a: &Self::Point, b: &Self::Point) -> bool
         ensures { result ≡ (ways self.now).apart a.now b.now };
 
+    /// Whether some path may end another: where none does, no point is compared with those at its
+    /// item.
+    fn may_end(&self) -> bool
+        ensures { result ≡ false → (x : Self.Point) → (y : Self.Point) → (ways self.now).apart x y ≡ false }
+    {
+        true
+    }
+
     /// Whether the points are the same.
     fn is_same(&self, a: &Self::Point, b: &Self::Point) -> bool
         ensures same { IsTrue result → a.now ≡ b.now }
@@ -43,9 +53,9 @@ pub trait Walk {
     fn item(&self, point: &Self::Point) -> u32
         ensures { result ≡ item_of self.now point.now };
 
-    /// A number by which points are looked up: points that are the same have the same number, or
-    /// some are found twice.
-    fn number(&self, point: &Self::Point) -> u64;
+    /// A number by which points are looked up: the fewer points share it, the faster.
+    fn number(&self, point: &Self::Point) -> u64
+        ensures { result ≡ number_of self.now point.now };
 
     ghost by_item: { (walk : Self) → IsByItem (ways walk) (item_of walk) };
 }

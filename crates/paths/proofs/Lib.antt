@@ -5,3 +5,4 @@ pub mod Short
 pub mod Rounds
 pub mod Lowest
 pub mod Forgetting
+pub mod Steps

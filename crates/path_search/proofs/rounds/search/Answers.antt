@@ -15,4 +15,4 @@ said_is {P = P} w item by_item xs ys rows new listed reach e f said s =
 pub returns-in-Ok-clause-says : goal.returns-in-Ok-clause-says
 returns-in-Ok-clause-says g c =
     said_is (g.W.Walk.ways c.args.walk.now) (g.W.Walk.item_of c.args.walk.now) (g.met.W.Walk.by_item c.args.walk.now) c.in-Ok.found.points c.as_slice.result.now c.in-Ok.found.rows.items c.deref.result.now
-    c.in-Ok.ensures.listed c.in-Ok.ensures.reach c.as_slice.ensures c.deref.ensures.value c.lowest-said.result c.lowest-said.ensures
+    c.in-Ok.ensures.kept.listed c.in-Ok.ensures.reach c.as_slice.ensures c.deref.ensures.value c.lowest-said.result c.lowest-said.ensures

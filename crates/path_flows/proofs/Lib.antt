@@ -1,0 +1,10 @@
+pub mod Adding
+pub mod Asking
+pub mod Bits
+pub mod Bridge
+pub mod Known
+pub mod Lacking
+pub mod Moved
+pub mod Noding
+pub mod Sets
+pub mod Steps
