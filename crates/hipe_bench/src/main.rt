@@ -3,6 +3,7 @@
 #![tactic(auto)]
 
 mod blocks;
+mod checking;
 mod images;
 mod memory;
 mod reading;
@@ -53,6 +54,12 @@ fn measured<F: Files>(alloc: Global, files: &mut F, words: &[String]) -> Result<
         "read_file" => reading::files_read(alloc, files, word(words, 1)?, number(words, 2)?),
         "read_text" => reading::forms_read(alloc, files, word(words, 1)?, number(words, 2)?),
         "read_module" => reading::modules_read(alloc, files, word(words, 1)?, number(words, 2)?),
+        "check_module" => checking::modules_checked(
+            alloc,
+            files,
+            word(words, 1)?,
+            number(words, 2)?,
+        ),
         "read_image" => images::images_read(alloc, number(words, 1)?, number(words, 2)?),
         "machine_run" => images::steps_run(alloc, number(words, 1)?),
         "sparc_step" => steps::steps_done(alloc, number(words, 1)?),
@@ -82,6 +89,10 @@ fn all<F: Files>(alloc: Global, files: &mut F) -> Result<String> {
     add(&mut lines, reading::files_read(alloc, files, "e.S", 3))?;
     add(&mut lines, reading::forms_read(alloc, files, "fact.S", 3))?;
     add(&mut lines, reading::modules_read(alloc, files, "fact.S", 3))?;
+    add(
+        &mut lines,
+        checking::modules_checked(alloc, files, "shop.S", 3),
+    )?;
     add(&mut lines, images::images_read(alloc, 1000, 2))?;
     add(&mut lines, images::steps_run(alloc, 4543))?;
     add(&mut lines, steps::steps_done(alloc, 100_000))?;

@@ -1,0 +1,4 @@
+pub mod Sound
+pub mod Texts
+mod Lows
+pub mod Saying
