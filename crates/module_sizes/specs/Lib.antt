@@ -1,0 +1,3 @@
+pub mod Atoms
+pub mod Counts
+pub mod Within
