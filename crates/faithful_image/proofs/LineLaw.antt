@@ -16,7 +16,7 @@ use Rattle.mode_switch.specs.Machine.{Progress, Ran, finish_of, opened, ran, ran
 use Rattle.mode_switch.specs.Run.{bound, full_step, mixed_run}
 use Rattle.mode_switch.specs.State.{Finish, Loaded, MixedState}
 use Rattle.mode_switch.specs.Text.{end_text, said, value_text}
-use Rattle.native_link.specs.declared.parts.Parts.{Parts}
+use Rattle.image_format.specs.declared.parts.Parts.{Parts}
 use Rattle.small_step.specs.Stage.{Stage, Still, Done, IfDone}
 use Rattle.tagged_words.specs.Store.{IsTreeOf, Store}
 use Rattle.tagged_words.specs.Word.{class_of}

@@ -8,7 +8,7 @@ use Rattle.mode_switch.specs.Call.{Call, IsCallOf, loaded, run_of}
 use Rattle.mode_switch.specs.Destination.{item_address, first_item}
 use Rattle.mode_switch.specs.Run.{bound}
 use Rattle.mode_switch.specs.State.{Loaded, MixedState, Finish}
-use Rattle.native_link.specs.declared.parts.Parts.{Parts}
+use Rattle.image_format.specs.declared.parts.Parts.{Parts}
 use Rattle.faithful_image.specs.Agreement.{Agrees}
 use Rattle.faithful_image.specs.Meaning.{meaning_of}
 

@@ -8,7 +8,7 @@ use Rattle.mode_switch.specs.Call.{Call, IsCallOf}
 use Rattle.mode_switch.specs.Machine.{Ran, opened, ran}
 use Rattle.mode_switch.specs.declared.text.TheConstants.{VALUE_STATUS}
 use Rattle.mode_switch.specs.Text.{end_line, not_built, said}
-use Rattle.native_link.specs.declared.parts.Parts.{Parts}
+use Rattle.image_format.specs.declared.parts.Parts.{Parts}
 use Rattle.small_step.specs.Stage.{Done}
 use Rattle.term_tree.specs.Text.{text_of}
 use Rattle.term_tree.specs.Tree as t

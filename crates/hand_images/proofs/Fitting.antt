@@ -1,8 +1,8 @@
 -- The parts of a hand-made image meet the rules of parts.
 use Rattle.std.proofs.Common.{◌≡◌, ◌+◌, ◌≤◌, ℕ, List, length, refl, arith}
-use Rattle.native_link.specs.Fitting.{IsFitting}
+use Rattle.image_format.specs.Fitting.{IsFitting}
 use Rattle.beam_code.specs.declared.module.TheConstants.{MOST_TEXT_BYTES}
-use Rattle.native_link.specs.declared.limits.TheConstants.{MOST_CODE}
+use Rattle.image_format.specs.declared.limits.TheConstants.{MOST_CODE}
 use Rattle.hand_images.specs.Parts.{parts_of}
 
 pub parts_fit : (text words : List ℕ) → length text ≤ MOST_TEXT_BYTES → 1 ≤ length words → length words ≤ MOST_CODE → IsFitting (parts_of text words)

@@ -1,6 +1,6 @@
 -- The parts of an image of one function whose code words are given (docs/FORMAT.md).
 use Rattle.std.specs.Prelude.{ℕ, List, [], ◌∷◌, ◌++◌, length, codes}
-use Rattle.native_link.specs.declared.parts.Parts.{Parts}
+use Rattle.image_format.specs.declared.parts.Parts.{Parts}
 use Rattle.tagged_words.specs.Atoms.{first_atoms}
 
 abbrev pub hand_atoms : List (List ℕ)

@@ -1,10 +1,10 @@
 ghost use Rattle.hand_images.specs.Parts.{hand_atoms, parts_of};
 ghost use Rattle.hand_images.specs.declared.hand.TheConstants.{TEXT};
-ghost use Rattle.native_link.specs.Spelling.{spelling};
-ghost use Rattle.native_link.specs.declared.limits.TheConstants.{MOST_CODE};
+ghost use Rattle.image_format.specs.Spelling.{spelling};
+ghost use Rattle.image_format.specs.declared.limits.TheConstants.{MOST_CODE};
 ghost use Rattle.std.specs.Prelude.{◌≡◌, ◌≤◌, ◌∷◌, [], length, IfOk};
 
-use native_link::{Native, Parts, image_bytes};
+use image_format::{Native, Parts, image_bytes};
 use sqlite_items::Items;
 use std::alloc::{AllocError, Global};
 use tagged_words::Atoms;

@@ -4,8 +4,9 @@ ghost use Rattle.std.specs.Prelude.{◌≡◌, [], IfOk};
 
 use anyhow::{Result, bail};
 use hand_images::image_of;
+use image_format::{MOST_CODE, MOST_IMAGE_BYTES};
 use mode_switch::{Call, Limits, MOST_REDUCTIONS, Machine};
-use native_link::{Image, MOST_CODE, MOST_IMAGE_BYTES, read_image};
+use native_link::{Image, read_image};
 use sqlite_items::Items;
 use std::alloc::{AllocError, Global};
 use term_tree::Name;

@@ -1,9 +1,8 @@
-pub mod SayingLaws
-pub mod PlainLaw
-pub mod ImageLaw
-pub mod CommandLaw
-pub mod OneModule
-pub mod TableLaw
+pub mod Numbers
+pub mod FilesLaw
+pub mod CheckingLaw
+pub mod RunningLaw
+pub mod AnswerLaw
 pub mod ReadLaw
 pub mod MeaningLaw
-pub mod Numbers
+pub mod CompilingLaw

@@ -1,152 +1,90 @@
--- What is compiled of a text is read, as an image of the text's module.
-use Rattle.std.proofs.Common.{◌≡◌, ◌⊎◌, inl, inr, ℕ, zero, suc, ◌+◌, ◌≤◌, ◌++◌, Bool, true, false, cond, nat_lt, not, List, [], ◌∷◌, length, map, Option, Some, None, Result, Ok, Err, refl, sym, ap, subst, ◌∙◌, arith, true≢false, le-ltb, lt-ltb, if◌then◌else◌}
+-- What is compiled of texts is read, as an image of their modules.
+use Rattle.std.proofs.Common.{◌≡◌, ◌⊎◌, inl, inr, ℕ, Bool, true, false, List, [], ◌∷◌, map, Result, Ok, Err, refl, sym, ap, subst, ◌∙◌, true≢false}
 use Rattle.std.specs.declared.alloc.AllocError.{AllocError}
-use Rattle.std.specs.List.{position, position_or_len}
-use Rattle.text_forms.specs.declared.form.Form.{Form}
-use Rattle.text_forms.specs.declared.refusal.TextRefusal.{TextRefusal}
-use Rattle.asm_text.specs.Reading.{reading as text_reading}
-use Rattle.beam_code.specs.declared.module.Function.{Function}
 use Rattle.beam_code.specs.declared.module.Module.{Module}
-use Rattle.beam_code.specs.Function.{Placed, all_functions}
-use Rattle.constant_code.proofs.FittingLaw.{atoms_table}
-use Rattle.constant_code.specs.Compiled.{numbers_from}
-use Rattle.hipe_core.proofs.OneModule.{modules_are}
-use Rattle.hipe_core.proofs.PlainLaw.{plain_compiles}
-use Rattle.hipe_core.proofs.TableLaw.{plain_has_atoms}
 use Rattle.hipe_core.specs.Image.{IsImageOf}
-use Rattle.hipe_core.specs.Meaning.{IsReadAs}
-use Rattle.native_link.proofs.Whole.{reading_again}
-use Rattle.native_link.specs.Checking.{linked, has_atoms, is_foreign, natives_checked, atom_count_offset, checking}
-use Rattle.beam_code.specs.declared.module.TheConstants.{MOST_TEXT_BYTES}
-use Rattle.native_link.specs.declared.parts.Native.{Native}
-use Rattle.native_link.specs.declared.parts.Parts.{Parts}
+use Rattle.hipe_core.specs.Meaning.{IsCompiled, IsReadAs}
+use Rattle.image_format.proofs.Whole.{reading_again}
+use Rattle.image_format.specs.declared.parts.Parts.{Parts}
+use Rattle.image_format.specs.Cursor.{FieldFault}
+use Rattle.image_format.specs.Reading.{reading}
+use Rattle.module_check.proofs.Refusing.{only_memory as only_want}
+use Rattle.module_check.specs.declared.refusal.CheckRefusal.{CheckRefusal}
+use Rattle.module_check.specs.declared.refusal.CheckRefusal.TheVariants as check
+use Rattle.module_texts.proofs.Lists.{none_unread, one_list}
+use Rattle.module_texts.specs.Texts.{AreModulesOf, AreOut, AreProfiled, IsOutBy, IsUnread}
 use Rattle.native_link.specs.declared.refusal.ImageRefusal.{ImageRefusal}
-use Rattle.native_link.specs.declared.refusal.ImageRefusal.TheVariants as fault
-use Rattle.native_link.specs.Fitting.{total_length}
-use Rattle.native_link.specs.Image.{Answers, AreReadings, SomeUnread, Readable, Unreadable, Refused, has_more}
-use Rattle.native_link.specs.Reading.{reading}
-use Rattle.plain_text.specs.Forms.{form_term, terms_of}
-use Rattle.plain_text.specs.Reading.{IsPlainText, IsNotPlain}
+use Rattle.native_link.specs.declared.refusal.ImageRefusal.TheVariants as image
+use Rattle.native_link.specs.Checking.{linked, checking}
+use Rattle.native_link.specs.Image.{Answers, HasParts, IsAskedInVain, Readable, at_field, has_more}
+use Rattle.path_rules.specs.Profile.{InProfile}
+use Rattle.trivial_code.specs.Compiled.{compiled}
 
--- ---- the second pass finds no fault
+-- the texts of modules are those that they are read of
+pub texts_are : (ts : List (List ℕ)) (ms : List Module) → AreModulesOf ts ms → map (λ m. m.text) ms ≡ ts
+texts_are [] [] h = refl
+texts_are [] (m ∷ ms) h = absurd h
+texts_are (t ∷ ts) [] h = absurd h
+texts_are (t ∷ ts) (m ∷ ms) h = ap (λ x. x ∷ map (λ (n : Module). n.text) ms) h.0.kept ∙ ap (λ (xs : List (List ℕ)). t ∷ xs) (texts_are ts ms h.1)
 
--- functions whose numbers are those of the modules' are none of another module
-none_foreign : (functions from n : ℕ) (ns : List Native) → map (λ (x : Native). x.fid) ns ≡ numbers_from from n → from + n ≤ functions → position_or_len (is_foreign functions) ns ≡ length ns
-none_foreign functions from n [] same few = refl
-none_foreign functions from zero (x ∷ ns) same few = absurd cc
-none_foreign functions from (suc n) (x ∷ ns) same few =
-    let first : x.fid ≡ from = cc in
-    let others : map (λ (y : Native). y.fid) ns ≡ numbers_from (from + 1) n = cc in
-    let below : nat_lt x.fid functions ≡ true = lt-ltb x.fid functions (omega arith) in
-    ap (λ b. cond (not (not b)) (1 + position_or_len (is_foreign functions) ns) 0) below ∙ omega (arith, none_foreign functions (from + 1) n ns others (omega arith))
-
-no_position : (functions : ℕ) (ns : List Native) → position_or_len (is_foreign functions) ns ≡ length ns → position (is_foreign functions) ns ≡ None
-no_position functions ns all =
-    ap (λ b. cond b (Some (position_or_len (is_foreign functions) ns)) None) (le-ltb (position_or_len (is_foreign functions) ns) (length ns) (omega arith))
-
-count_placed : (m : Module) (fs : List Function) → length {A = Placed} (map (λ f. record { owner = m; function = f }) fs ++ []) ≡ length fs
-count_placed m [] = refl
-count_placed m (f ∷ fs) = let rest = count_placed m fs in omega arith
-
-checked_by : (p : Parts) (b : Bool) (o : Option ℕ) → b ≡ true → o ≡ None → (if b then natives_checked p o else Err (fault.Value (atom_count_offset p))) ≡ Ok tt
-checked_by p true None known all = refl
-checked_by p true (Some i) known all = absurd cc
-checked_by p false o known all = absurd cc
-
-has_checked : (m : Module) (p : Parts) → has_atoms p.atoms (m ∷ []) ≡ true → map (λ (n : Native). n.fid) p.natives ≡ numbers_from 0 (length m.functions) → checking p (m ∷ []) ≡ Ok tt
-has_checked m p known same =
-    let few : 0 + length m.functions ≤ length (all_functions (m ∷ [])) = omega (arith, count_placed m m.functions) in
-    checked_by p (has_atoms p.atoms (m ∷ [])) (position (is_foreign (length (all_functions (m ∷ [])))) p.natives) known
-    (no_position (length (all_functions (m ∷ []))) p.natives (none_foreign (length (all_functions (m ∷ []))) 0 (length m.functions) p.natives same few))
-
--- ---- the first pass finds none, and leaves nothing
-
-nothing_more : (p : Parts) → p.literals ≡ [] → p.roots ≡ [] → p.descriptors ≡ [] → has_more p ≡ false
-nothing_more p literals roots descriptors = rw (literals, roots, descriptors) refl
-
-image_read : (m : Module) (bytes : List ℕ) (is : IsImageOf m bytes) → reading bytes ≡ Ok is.parts
-image_read m bytes is = ap reading is.spelled ∙ reading_again is.parts is.fitting is.sized
-
-texts_of : (text : List ℕ) (m : Module) (bytes : List ℕ) → IsPlainText text m → (is : IsImageOf m bytes) → is.parts.texts ≡ text ∷ []
-texts_of text m bytes plain is = is.faithful.texts ∙ ap (λ (x : Module). x.text ∷ []) plain.is
-
-image_checked : (text : List ℕ) (m : Module) (bytes : List ℕ) → IsPlainText text m → (is : IsImageOf m bytes) → checking is.parts (m ∷ []) ≡ Ok tt
-image_checked text m bytes plain is =
-    let bytes_of = ap total_length (texts_of text m bytes plain is) in
-    let short : length text ≤ MOST_TEXT_BYTES = omega (arith, bytes_of, is.fitting.text_bytes) in
-    has_checked m is.parts
-    (ap (λ t. has_atoms t (m ∷ [])) is.atoms ∙ plain_has_atoms text m plain (atoms_table m (plain_compiles text m plain short)).table)
-    is.faithful.choice
-
-image_readable : (text : List ℕ) (m : Module) (bytes : List ℕ) → IsPlainText text m → (is : IsImageOf m bytes) → Readable bytes is.parts (m ∷ [])
-image_readable text m bytes plain is =
-    record {
-      parts = image_read m bytes is;
-      modules = subst (λ texts. AreReadings texts (m ∷ [])) (sym (texts_of text m bytes plain is)) (plain, tt);
-      nothing_more = nothing_more is.parts is.literals is.roots is.descriptors;
-    }
-
--- ---- so each refusal is another's
-
-same_parts : (r : Result Parts ImageRefusal) (p q : Parts) → r ≡ Ok p → r ≡ Ok q → p ≡ q
-same_parts r p q d e = cc
-
-same_forms : (r : Result (List Form) TextRefusal) (f g : List Form) → r ≡ Ok f → r ≡ Ok g → f ≡ g
-same_forms r f g d e = cc
+same_of : {A E : Type 0} (r : Result A E) (p q : A) → r ≡ Ok p → r ≡ Ok q → p ≡ q
+same_of r p q d e = cc
 
 not_both : {A E : Type 0} (r : Result A E) (a : A) (e : E) → r ≡ Ok a → r ≡ Err e → ⊥
 not_both r a e good bad = cc
 
-plain_is_read : (text : List ℕ) (m : Module) → IsPlainText text m → IsNotPlain text → ⊥
-plain_is_read text m plain (inl o) =
-    let forms : o.forms ≡ plain.forms = same_forms (text_reading text) o.forms plain.forms o.read plain.read in
-    o.other plain.plain plain.is_plain (subst (λ fs. map form_term fs ≡ terms_of plain.plain) (sym forms) plain.terms)
-plain_is_read text m plain (inr x) = not_both (text_reading text) plain.forms x.0 plain.read x.1
+-- modules in the profile are not refused
+none_out : (ms : List Module) (r : CheckRefusal) → InProfile ms → IsOutBy ms r → ⊥
+none_out ms (check.Memory e) profile out = out
+none_out ms (check.Duplicate name) profile out = only_want ms (check.Duplicate name) out profile
+none_out ms check.TooMany profile out = only_want ms check.TooMany out profile
+none_out ms (check.Broken rule m f a k) profile out = only_want ms (check.Broken rule m f a k) out profile
 
-text_is_read : (text : List ℕ) (m : Module) → IsPlainText text m → SomeUnread (text ∷ []) → ⊥
-text_is_read text m plain (inl other) = plain_is_read text m plain other
-text_is_read text m plain (inr nothing) = nothing
+module _ (texts : List (List ℕ)) (bytes : List ℕ) (made : IsCompiled texts bytes) where
+  abbrev ms : List Module
+  ms = made.modules
 
-never_unread : (text : List ℕ) (m : Module) (bytes : List ℕ) → IsPlainText text m → IsImageOf m bytes → Unreadable bytes → ⊥
-never_unread text m bytes plain is u = go u.more
-  where
-    same : u.part ≡ is.parts
-    same = same_parts (reading bytes) u.part is.parts u.parts (image_read m bytes is)
+  abbrev parts : Parts
+  parts = compiled ms
 
-    go : SomeUnread u.part.texts ⊎ (has_more u.part ≡ true) → ⊥
-    go (inl unread) = text_is_read text m plain (subst SomeUnread (ap (λ (p : Parts). p.texts) same ∙ texts_of text m bytes plain is) unread)
-    go (inr more) = true≢false (sym more ∙ ap has_more same ∙ nothing_more is.parts is.literals is.roots is.descriptors)
+  parts_read : reading bytes ≡ Ok parts
+  parts_read = ap reading made.image.spelled ∙ reading_again parts made.image.is.fitting made.image.sized
 
--- what is read of the bytes is these parts and this module
-pub what_is_read : (text : List ℕ) (m : Module) (bytes : List ℕ) → IsPlainText text m → (is : IsImageOf m bytes) → (p : Parts) (ms : List Module) → Readable bytes p ms → (p ≡ is.parts) × (ms ≡ m ∷ [])
-what_is_read text m bytes plain is p ms r =
-    let same : p ≡ is.parts = same_parts (reading bytes) p is.parts r.parts (image_read m bytes is) in
-    let texts : AreReadings (text ∷ []) ms = subst (λ ts. AreReadings ts ms) (ap (λ (q : Parts). q.texts) same ∙ texts_of text m bytes plain is) r.modules in
-    (same, modules_are text m ms plain texts)
+  kept : parts.texts ≡ texts
+  kept = texts_are texts ms made.profiled.read
 
-never_refused : (text : List ℕ) (m : Module) (bytes : List ℕ) → IsPlainText text m → IsImageOf m bytes → (e : ImageRefusal) → (reading bytes ≡ Err e) ⊎ Refused bytes e → ⊥
-never_refused text m bytes plain is e (inl first) = not_both (reading bytes) is.parts e (image_read m bytes is) first
-never_refused text m bytes plain is e (inr r) =
-    let found = what_is_read text m bytes plain is r.part r.modules r.read in
-    let passed : checking r.part r.modules ≡ Ok tt = ap (λ p. checking p r.modules) found.0 ∙ ap (checking is.parts) found.1 ∙ image_checked text m bytes plain is in
-    not_both (checking r.part r.modules) tt e passed r.fault
+  profiled : AreProfiled parts.texts ms
+  profiled = subst (λ (ts : List (List ℕ)). AreProfiled ts ms) (sym kept) made.profiled
 
-only_memory : (text : List ℕ) (m : Module) (bytes : List ℕ) → IsPlainText text m → IsImageOf m bytes → (e : ImageRefusal) → Answers bytes (Err e) → (want : AllocError) × (e ≡ fault.Memory want)
-only_memory text m bytes plain is (fault.Memory want) h = (want, refl)
-only_memory text m bytes plain is fault.NotBuilt h = absurd (never_unread text m bytes plain is h)
-only_memory text m bytes plain is fault.Magic h = absurd (never_refused text m bytes plain is fault.Magic h)
-only_memory text m bytes plain is fault.Version h = absurd (never_refused text m bytes plain is fault.Version h)
-only_memory text m bytes plain is (fault.Short n) h = absurd (never_refused text m bytes plain is (fault.Short n) h)
-only_memory text m bytes plain is (fault.Count n) h = absurd (never_refused text m bytes plain is (fault.Count n) h)
-only_memory text m bytes plain is (fault.Value n) h = absurd (never_refused text m bytes plain is (fault.Value n) h)
-only_memory text m bytes plain is (fault.Order n) h = absurd (never_refused text m bytes plain is (fault.Order n) h)
-only_memory text m bytes plain is (fault.Long n) h = absurd (never_refused text m bytes plain is (fault.Long n) h)
+  readable : Readable bytes parts ms
+  readable = record { has = record { parts = parts_read; no_more = refl }; profiled = profiled }
 
-pub image_is_read : (text : List ℕ) (m : Module) (bytes : List ℕ) → IsPlainText text m → IsImageOf m bytes → IsReadAs m bytes
-image_is_read text m bytes plain is =
-    record {
-      image = linked is.parts (m ∷ []);
-      read = (image_readable text m bytes plain is, image_checked text m bytes plain is);
-      modules = refl;
-      refused = only_memory text m bytes plain is;
-    }
+  -- what is read of the bytes is these parts and these modules
+  pub what_is_read : (p : Parts) (ns : List Module) → Readable bytes p ns → (p ≡ parts) × (ns ≡ ms)
+  what_is_read p ns r =
+      let same : p ≡ parts = same_of (reading bytes) p parts r.has.parts parts_read in
+      (same, one_list parts.texts ns ms (subst (λ (q : Parts). AreModulesOf q.texts ns) same r.profiled.read) profiled.read)
+
+  same_texts : (p : Parts) → HasParts bytes p → p.texts ≡ parts.texts
+  same_texts p h = ap (λ (q : Parts). q.texts) (same_of (reading bytes) p parts h.parts parts_read)
+
+  asked_in_vain : (f : FieldFault) → IsAskedInVain bytes f → ⊥
+  asked_in_vain f v =
+      let found = what_is_read v.parts v.modules v.read in
+      not_both (checking v.parts v.modules) tt f (ap (λ p. checking p v.modules) found.0 ∙ ap (checking parts) found.1 ∙ made.image.is.checked) v.is
+
+  outside : (p : Parts) (r : CheckRefusal) → HasParts bytes p → AreOut p.texts r → ⊥
+  outside p r h out =
+      let same : out.modules ≡ ms = one_list parts.texts out.modules ms (subst (λ (ts : List (List ℕ)). AreModulesOf ts out.modules) (same_texts p h) out.read) profiled.read in
+      none_out ms r profiled.profile (subst (λ (ns : List Module). IsOutBy ns r) same out.out)
+
+  only_memory : (e : ImageRefusal) → Answers bytes (Err e) → (want : AllocError) × (e ≡ image.Memory want)
+  only_memory (image.Memory want) h = (want, refl)
+  only_memory image.NotBuilt h = absurd (true≢false (sym h.2 ∙ ap has_more (same_of (reading bytes) h.0 parts h.1 parts_read)))
+  only_memory (image.Field flaw at) (inl first) = absurd (not_both (reading bytes) parts (at_field flaw at) parts_read first)
+  only_memory (image.Field flaw at) (inr second) = absurd (asked_in_vain (at_field flaw at) second)
+  only_memory (image.Module index e) h = absurd (none_unread parts.texts ms index e profiled.read (subst (λ (ts : List (List ℕ)). IsUnread ts index e) (same_texts h.0 h.1) h.2))
+  only_memory (image.Check r) h = absurd (outside h.0 r h.1 h.2)
+
+  pub image_is_read : IsReadAs ms bytes
+  image_is_read = record { linked = linked parts ms; read = (readable, made.image.is.checked); modules = refl; refused = only_memory }

@@ -1,16 +1,17 @@
 -- What the code says of what the words ask (docs/COMMANDS.md).
-use Rattle.std.specs.Prelude.{ℕ, ◌≡◌, ◌+◌, ◌-◌, ◌*◌, ◌&&◌, nat_le, if◌then◌else◌, Option, Some, None, List, [], ◌∷◌, is_some, true}
+use Rattle.std.specs.Prelude.{ℕ, ◌≡◌, ◌+◌, ◌-◌, ◌*◌, ◌&&◌, nat_le, if◌then◌else◌, Option, Some, None, List, [], ◌∷◌, is_some, ◌<◌, length, map, string_bytes, true}
 use Rattle.asm_text.specs.Entry.{entry_of}
 use Rattle.hipe_core.specs.declared.asking.Asked as code
 use Rattle.hipe_core.specs.declared.asking.Asked.TheVariants as a
 use Rattle.hipe_core.specs.declared.asking.RunWords as words
 use Rattle.mode_switch.specs.Call.{IsInRange}
-use Rattle.hipe_core.specs.Words.{Asked, Nothing, Compile, Run, Three, is_digit}
+use Rattle.hipe_core.specs.Words.{Asked, Nothing, Check, Compile, Run, Three, is_digit, others}
 
 -- the code's answer is that
 abbrev pub IsAsked : code.Asked → Asked → Type 0
 IsAsked a.Nothing q = q ≡ Nothing
-IsAsked (a.Compile file) q = q ≡ Compile file.now
+IsAsked (a.Check words) q = q ≡ Check (others (map string_bytes words.now))
+IsAsked (a.Compile chosen words) q = (q ≡ Compile chosen (others (map string_bytes words.now))) × (0 < length (others (map string_bytes words.now)))
 IsAsked (a.Run image entry args limits) q = (q ≡ Run image.now entry.now args.now limits) × (is_some (entry_of entry.now) ≡ true) × IsInRange limits
 
 -- the code tells the three words

@@ -1,7 +1,13 @@
-pub mod Image
 pub mod Saying
 pub mod Words
+pub mod Lines
+pub mod Telling
+pub mod Files
+pub mod Checking
+pub mod Image
+pub mod Writing
 pub mod Command
+pub mod Answer
 pub mod Asking
 pub mod Running
 pub mod Meaning

@@ -1,58 +1,61 @@
--- The line that a text means of a call, and the reading of what is compiled of it (docs/COMMANDS.md, run; docs/MACHINE.md, Outcomes).
-use Rattle.std.specs.Prelude.{ℕ, ◌≡◌, Some, Ok, Err, List, [], ◌∷◌, length, true}
+-- The line that texts mean of a call, and the reading of what is compiled of them (docs/COMMANDS.md, run; docs/MACHINE.md, Outcomes).
+use Rattle.std.specs.Prelude.{ℕ, ◌≡◌, Some, Ok, Err, List, [], true}
 use Rattle.std.specs.declared.alloc.AllocError.{AllocError}
 use Rattle.beam_code.specs.declared.call.Limits.{Limits}
 use Rattle.beam_code.specs.declared.module.Module.{Module}
-use Rattle.term_tree.specs.declared.term.Term.{Term}
 use Rattle.beam_code.specs.Function.{exported_number}
 use Rattle.faithful_image.specs.Line.{MeansLine}
-use Rattle.hipe_core.specs.Command.{RunsTo, is_printed}
-use Rattle.hipe_core.specs.Image.{IsCompiled}
+use Rattle.hipe_core.specs.Command.{Called, RunsTo, is_printed}
+use Rattle.hipe_core.specs.Image.{IsImageOf}
 use Rattle.mode_switch.specs.Call.{IsInRange, call_of}
+use Rattle.module_texts.specs.Texts.{AreProfiled}
 use Rattle.native_link.specs.Checking.{Linked}
 use Rattle.native_link.specs.declared.refusal.ImageRefusal.{ImageRefusal}
-use Rattle.native_link.specs.declared.refusal.ImageRefusal.TheVariants as fault
+use Rattle.native_link.specs.declared.refusal.ImageRefusal.TheVariants as image
 use Rattle.native_link.specs.Image.{Answers}
-use Rattle.plain_text.specs.Reading.{IsPlainText}
+use Rattle.trivial_code.specs.Trivial.{are_trivial}
 
--- the text is that of a module which exports the function, and a call of it with these arguments means this line
-pub record TextMeans (text owner name : List ℕ) (args : List Term) (limits : Limits) (line : List ℕ × ℕ) : Type 0 where
-  pub source : Module
-  pub read : IsPlainText text source
+-- the bytes are what is compiled of these texts, whose functions are trivial
+pub record IsCompiled (texts : List (List ℕ)) (bytes : List ℕ) : Type 0 where
+  pub modules : List Module
+  pub profiled : AreProfiled texts modules
+  pub trivial : are_trivial modules ≡ true
+  pub image : IsImageOf modules bytes
+
+-- the modules export the function, and a call of it without arguments means this line
+pub record ModulesMean (ms : List Module) (owner name : List ℕ) (limits : Limits) (line : List ℕ × ℕ) : Type 0 where
   pub function : ℕ
-  pub exported : exported_number (source ∷ []) owner name (length args) ≡ Some function
-  pub means : MeansLine (source ∷ []) (call_of function args limits []) line
+  pub exported : exported_number ms owner name 0 ≡ Some function
+  pub means : MeansLine ms (call_of function [] limits []) line
 
--- a run on what is compiled of a text prints what the text means
+-- a run on what is compiled of texts prints what these mean
 abbrev pub CompiledRunsPrintTheirMeaning : Type 0
 CompiledRunsPrintTheirMeaning =
-    (text bytes owner name : List ℕ) (args : List Term) (limits : Limits) (line : List ℕ × ℕ) → IsInRange limits → IsCompiled text bytes
-    → RunsTo bytes owner name args limits line → TextMeans text owner name args limits line × (is_printed line ≡ true)
+    (texts : List (List ℕ)) (bytes : List ℕ) (c : Called) (line : List ℕ × ℕ) → IsInRange c.limits → (made : IsCompiled texts bytes) → RunsTo bytes c line
+    → ModulesMean made.modules c.owner c.name c.limits line × (is_printed line ≡ true)
 
--- the bytes are read as an image of this one module, and nothing but want of memory keeps them from being read
-pub record IsReadAs (m : Module) (bytes : List ℕ) : Type 0 where
-  pub image : Linked
-  pub read : Answers bytes (Ok image)
-  pub modules : image.modules ≡ m ∷ []
-  pub refused : (e : ImageRefusal) → Answers bytes (Err e) → (want : AllocError) × (e ≡ fault.Memory want)
+-- the bytes are read as an image of these modules, and nothing but want of memory keeps them from being read
+pub record IsReadAs (ms : List Module) (bytes : List ℕ) : Type 0 where
+  pub linked : Linked
+  pub read : Answers bytes (Ok linked)
+  pub modules : linked.modules ≡ ms
+  pub refused : (e : ImageRefusal) → Answers bytes (Err e) → (want : AllocError) × (e ≡ image.Memory want)
 
--- a run of a call without arguments comes to a line, which is printed as the text means it
-pub record IsPrinted (text bytes owner name : List ℕ) (limits : Limits) : Type 0 where
+abbrev pub without_args : List ℕ → List ℕ → List ℕ → List ℕ → Limits → Called
+without_args file entry owner name limits = record { file = file; entry = entry; owner = owner; name = name; args = []; limits = limits }
+
+-- a run of a call without arguments comes to a line
+pub record IsRun (bytes : List ℕ) (c : Called) : Type 0 where
   pub line : List ℕ × ℕ
-  pub runs : RunsTo bytes owner name [] limits line
-  pub means : TextMeans text owner name [] limits line
-  pub printed : is_printed line ≡ true
+  pub runs : RunsTo bytes c line
 
--- the bytes are read as an image of the text's module, and each function that it exports without arguments is run and
--- printed, under all limits in range
-pub record IsRead (text bytes : List ℕ) : Type 0 where
-  pub source : Module
-  pub plain : IsPlainText text source
-  pub read : IsReadAs source bytes
-  pub printed :
-      (owner name : List ℕ) (limits : Limits) (function : ℕ) → IsInRange limits → exported_number (source ∷ []) owner name 0 ≡ Some function
-      → IsPrinted text bytes owner name limits
+-- the bytes are read, and each function that the modules export without arguments is run, under all limits in range
+pub record IsRead (ms : List Module) (bytes : List ℕ) : Type 0 where
+  pub read : IsReadAs ms bytes
+  pub runs :
+      (file entry owner name : List ℕ) (limits : Limits) (function : ℕ) → IsInRange limits → exported_number ms owner name 0 ≡ Some function
+      → IsRun bytes (without_args file entry owner name limits)
 
--- what is compiled of a text is read
+-- what is compiled of texts is read
 abbrev pub CompiledImagesAreRead : Type 0
-CompiledImagesAreRead = (text bytes : List ℕ) → IsCompiled text bytes → IsRead text bytes
+CompiledImagesAreRead = (texts : List (List ℕ)) (bytes : List ℕ) (made : IsCompiled texts bytes) → IsRead made.modules bytes

@@ -3,7 +3,7 @@ use Rattle.std.specs.Prelude.{◌≡◌}
 use Rattle.hipe_core.specs.declared.asking.TheConstants.{REDUCTIONS_DEFAULT, WORDS_DEFAULT}
 use Rattle.mode_switch.specs.declared.addresses.TheConstants.{MOST_REDUCTIONS, MOST_WORDS}
 use Rattle.beam_code.specs.declared.module.TheConstants.{MOST_TEXT_BYTES}
-use Rattle.native_link.specs.declared.limits.TheConstants.{MOST_IMAGE_BYTES}
+use Rattle.image_format.specs.declared.limits.TheConstants.{MOST_IMAGE_BYTES}
 
 pub record TheNumbersAre : Type 0 where
   -- the limits of a call that names none, and the most that an option may say

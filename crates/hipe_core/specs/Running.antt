@@ -1,34 +1,65 @@
--- How a refusal of an image ends a command (docs/COMMANDS.md, run).
-use Rattle.hipe_core.specs.Command.{IsFlaw, IsTextFlaw}
+-- How the run of a call on an image may end (docs/COMMANDS.md, run).
+use Rattle.std.specs.Prelude.{ℕ, ◌≡◌, ◌<◌, ◌⊎◌, true, false, Option, Some, None, List, [], length}
+use Rattle.beam_code.specs.declared.call.Limits.{Limits}
+use Rattle.faithful_image.specs.Line.{printed_line}
+use Rattle.hipe_base.specs.Sink.{Seen}
+use Rattle.hipe_core.specs.Command.{Called, function_of, is_printed}
 use Rattle.hipe_core.specs.declared.ending.Ending.{Ending}
-use Rattle.hipe_core.specs.declared.ending.Ending.TheVariants.{NotBuilt, Refused, TextRefused, ArgsRefused, NoMemory}
-use Rattle.text_forms.specs.declared.refusal.TextRefusal.{TextRefusal}
-use Rattle.text_forms.specs.declared.refusal.TextRefusal.TheVariants as refusal
+use Rattle.hipe_core.specs.declared.ending.Ending.TheVariants.{Said, ArgsRefused, ImageRefused, NotExported, CannotWrite, NoMemory, NotBuilt}
 use Rattle.native_link.specs.declared.refusal.ImageRefusal.{ImageRefusal}
-use Rattle.native_link.specs.declared.refusal.ImageRefusal.TheVariants as fault
+use Rattle.native_link.specs.declared.refusal.ImageRefusal.TheVariants as image
+use Rattle.text_forms.specs.declared.refusal.TextRefusal.{TextRefusal}
+use Rattle.text_forms.specs.declared.refusal.TextRefusal.TheVariants as text
+use Rattle.hipe_core.specs.Saying.{Says}
+use Rattle.mode_switch.specs.Call.{call_of}
+use Rattle.mode_switch.specs.declared.machine.Call as code
+use Rattle.native_link.specs.Checking.{Linked}
 
--- the ending of a refusal
-abbrev pub IsNotBuilt : ImageRefusal → Type 0
-IsNotBuilt fault.NotBuilt = Unit {0}
-IsNotBuilt _ = ⊥
+-- the call by the words that name its image and its entry
+abbrev pub called : List ℕ → List ℕ → code.Call → Limits → Called
+called file entry call limits =
+    record { file = file; entry = entry; owner = call.«module»; name = call.function; args = call.args; limits = limits }
 
-abbrev pub IsMemory : ImageRefusal → Type 0
-IsMemory (fault.Memory e) = Unit {0}
-IsMemory _ = ⊥
+-- the line of the outcome was written, or not
+abbrev pub SaysLine : Ending → List ℕ → List ℕ × ℕ → Seen → Seen → Type 0
+SaysLine (Said status) file line before after = (is_printed line ≡ true) × (status ≡ line.1) × Says true line.0 before after
+SaysLine CannotWrite file line before after = (is_printed line ≡ true) × Says false line.0 before after
+SaysLine (NotBuilt name) file line before after = (name.now ≡ file) × (is_printed line ≡ false) × (after ≡ before)
+SaysLine NoMemory file line before after = after ≡ before
+SaysLine e file line before after = ⊥
 
-abbrev pub RefusedAs : ImageRefusal → Ending → Type 0
-RefusedAs e (Refused f at) = IsFlaw e f at
-RefusedAs e NotBuilt = IsNotBuilt e
-RefusedAs e NoMemory = IsMemory e
-RefusedAs e _ = ⊥
+-- a call with arguments is not built
+abbrev pub IsCallUnbuilt : Ending → Called → Seen → Seen → Type 0
+IsCallUnbuilt (NotBuilt name) c before after = (name.now ≡ c.file) × (0 < length c.args) × (after ≡ before)
+IsCallUnbuilt e c before after = ⊥
 
--- and of a refusal of a text: of a module, and of arguments
-abbrev pub TextRefusedAs : TextRefusal → Ending → Type 0
-TextRefusedAs e (TextRefused f line) = IsTextFlaw e f line
-TextRefusedAs (refusal.Memory e) NoMemory = Unit {0}
-TextRefusedAs e _ = ⊥
+-- of a function that is exported
+abbrev pub RunsFunction : Ending → Linked → Called → ℕ → Seen → Seen → Type 0
+RunsFunction e l c function before after =
+    IsCallUnbuilt e c before after
+    ⊎ ((c.args ≡ []) × SaysLine e c.file (printed_line l.modules l.parts (call_of function c.args c.limits [])) before after)
 
-abbrev pub ArgsRefusedAs : TextRefusal → Ending → Type 0
-ArgsRefusedAs e (ArgsRefused f line) = IsTextFlaw e f line
-ArgsRefusedAs (refusal.Memory e) NoMemory = Unit {0}
-ArgsRefusedAs e _ = ⊥
+abbrev pub RunsNumber : Ending → Linked → Called → Option ℕ → Seen → Seen → Type 0
+RunsNumber (NotExported entry count) l c None before after = (entry.now ≡ c.entry) × (count ≡ length c.args) × (after ≡ before)
+RunsNumber NoMemory l c number before after = after ≡ before
+RunsNumber e l c None before after = ⊥
+RunsNumber e l c (Some function) before after = RunsFunction e l c function before after
+
+abbrev pub RunsOpened : Ending → Linked → Called → Seen → Seen → Type 0
+RunsOpened e l c before after = RunsNumber e l c (function_of l c) before after
+
+-- how the refusal of an image, of a file of this name, ends the command
+abbrev pub EndsImage : ImageRefusal → List ℕ → Ending → Type 0
+EndsImage image.NotBuilt file (NotBuilt name) = name.now ≡ file
+EndsImage image.NotBuilt file other = ⊥
+EndsImage (image.Memory e) file NoMemory = Unit {0}
+EndsImage (image.Memory e) file other = ⊥
+EndsImage e file (ImageRefused name refusal) = (name.now ≡ file) × (refusal ≡ e)
+EndsImage e file other = ⊥
+
+-- and that of arguments
+abbrev pub EndsArgs : TextRefusal → Ending → Type 0
+EndsArgs (text.Memory e) NoMemory = Unit {0}
+EndsArgs (text.Memory e) other = ⊥
+EndsArgs e (ArgsRefused refusal) = refusal ≡ e
+EndsArgs e other = ⊥

@@ -1,16 +1,20 @@
 -- What the words of a command line ask (docs/COMMANDS.md).
-use Rattle.std.specs.Prelude.{ℕ, ◌+◌, ◌-◌, ◌*◌, Bool, true, false, ◌&&◌, nat_le, if◌then◌else◌, is_some, Option, Some, None, List, [], ◌∷◌, length, take, drop, codes}
+use Rattle.std.specs.Prelude.{ℕ, ◌+◌, ◌-◌, ◌*◌, Bool, true, false, not, ◌&&◌, nat_le, if◌then◌else◌, is_some, Option, Some, None, List, [], ◌∷◌, length, take, drop, codes}
 use Rattle.std.specs.List.{list_all}
 use Rattle.asm_text.specs.Entry.{entry_of}
 use Rattle.beam_code.specs.declared.call.Limits.{Limits}
+use Rattle.hipe_core.specs.declared.asking.Chosen.{Chosen}
+use Rattle.hipe_core.specs.declared.asking.Chosen.TheVariants.{All}
 use Rattle.hipe_core.specs.declared.asking.TheConstants.{REDUCTIONS_DEFAULT, WORDS_DEFAULT}
 use Rattle.mode_switch.specs.declared.addresses.TheConstants.{MOST_REDUCTIONS, MOST_WORDS}
 use Rattle.term_tree.specs.Name.{same_name}
 
--- a command with its words, or none: a file to compile; or an image, the entry of a call, its arguments and its limits
+-- a command with its words, or none: files to check; files to compile, with the functions that are to be native; or an
+-- image, the entry of a call, its arguments and its limits
 pub data Asked : Type 0 where
   Nothing : Asked
-  Compile : List ℕ → Asked
+  Check : List (List ℕ) → Asked
+  Compile : Chosen → List (List ℕ) → Asked
   Run : List ℕ → List ℕ → List ℕ → Limits → Asked
 
 -- what stands behind the beginning of a word, where it begins so
@@ -43,7 +47,10 @@ heap_option = codes "--heap="
 abbrev pub stack_option : List ℕ
 stack_option = codes "--stack="
 
--- no option but those of the command
+-- no option but those of the command, and `check` has none
+abbrev pub fits_check : List ℕ → Bool
+fits_check word = not (is_option word)
+
 abbrev pub fits_compile : List ℕ → Bool
 fits_compile word = if is_option word then is_some (behind native_option word) else true
 
@@ -103,13 +110,21 @@ three_of (a ∷ b ∷ []) = None
 three_of (a ∷ b ∷ c ∷ []) = Some (record { first = a; second = b; third = c })
 three_of (a ∷ b ∷ c ∷ d ∷ ws) = None
 
-abbrev pub compile_with : Option (List ℕ) → Option (List ℕ) → Asked
-compile_with None file = Nothing
-compile_with (Some choice) None = Nothing
-compile_with (Some choice) (Some file) = if same_name choice (codes "all") then Compile file else Nothing
+-- one file or more
+abbrev pub check_with : List (List ℕ) → Asked
+check_with [] = Nothing
+check_with (f ∷ fs) = Check (f ∷ fs)
+
+abbrev pub check_of : List (List ℕ) → Asked
+check_of words = if list_all fits_check words then check_with (others words) else Nothing
+
+abbrev pub compile_with : Option (List ℕ) → List (List ℕ) → Asked
+compile_with None files = Nothing
+compile_with (Some choice) [] = Nothing
+compile_with (Some choice) (f ∷ fs) = if same_name choice (codes "all") then Compile All (f ∷ fs) else Nothing
 
 abbrev pub compile_of : List (List ℕ) → Asked
-compile_of words = if list_all fits_compile words then compile_with (only_of (values native_option words)) (only_of (others words)) else Nothing
+compile_of words = if list_all fits_compile words then compile_with (only_of (values native_option words)) (others words) else Nothing
 
 abbrev pub run_with : Option Limits → Option Three → Asked
 run_with None words = Nothing
@@ -122,6 +137,7 @@ run_of words = if list_all fits_run words then run_with (limits_of words) (three
 abbrev pub asked : List (List ℕ) → Asked
 asked [] = Nothing
 asked (command ∷ words) =
-    if same_name command (codes "compile") then compile_of words
+    if same_name command (codes "check") then check_of words
+    else if same_name command (codes "compile") then compile_of words
     else if same_name command (codes "run") then run_of words
     else Nothing

@@ -29,12 +29,20 @@ pub const REDUCTIONS_DEFAULT: u32 = 1_000_000;
 
 pub const WORDS_DEFAULT: u32 = 1_048_576;
 
+/// Which functions are to be in native form.
+#[derive(Clone, Copy, PartialEq, Eq, Debug)]
+pub enum Chosen {
+    All,
+}
+
 /// What the words of a command line ask.
 pub enum Asked<'a> {
     /// Nothing that the program knows.
     Nothing,
-    /// To compile this file, with all functions in native form.
-    Compile(&'a str),
+    /// To check the files that these words name.
+    Check(&'a [String]),
+    /// To compile the files that those of these words name which are no options.
+    Compile(Chosen, &'a [String]),
     /// To run on this image the function with this entry on these arguments, under these limits.
     Run(&'a str, &'a str, &'a str, Limits),
 }
@@ -54,14 +62,14 @@ fn behind<'a>(front: &[u8], word: &'a [u8]) -> Option<&'a [u8]>
     word.strip_prefix(front)
 }
 
-fn is_option(word: &[u8]) -> bool
+pub fn is_option(word: &[u8]) -> bool
     ensures { result ≡ spec.is_option word.now }
 {
     behind(b"--", word).is_some()
 }
 
 /// A word that is no option, by its place among them.
-fn other(words: &[String], place: usize) -> Option<&str>
+pub fn other(words: &[String], place: usize) -> Option<&str>
     ensures { option_copied result ≡ slice_get (spec.others (map string_bytes words.now)) place }
 {
     let mut skip = place;
@@ -119,6 +127,17 @@ fn fits_run(word: &[u8]) -> bool
     } else {
         true
     }
+}
+
+fn all_fit_check(words: &[String]) -> bool
+    ensures { result ≡ list_all spec.fits_check (map string_bytes words.now) }
+{
+    for word in words {
+        if is_option(word.as_str().as_bytes()) {
+            return false;
+        }
+    }
+    true
 }
 
 fn all_fit_compile(words: &[String]) -> bool
@@ -212,17 +231,6 @@ fn limits_of(words: &[String]) -> Option<Limits>
     })
 }
 
-/// The one word that is no option, where there is just one.
-fn only(words: &[String]) -> Option<&str>
-    ensures { option_copied result ≡ spec.only_of (spec.others (map string_bytes words.now)) }
-{
-    let first = other(words, 0)?;
-    match other(words, 1) {
-        None => Some(first),
-        Some(_) => None,
-    }
-}
-
 /// The three words that are no options, where there are just three.
 fn three(words: &[String]) -> Option<RunWords<'_>>
     ensures { three_in result ≡ spec.three_of (spec.others (map string_bytes words.now)) }
@@ -247,6 +255,18 @@ fn once<'a>(option: &[u8], words: &'a [String]) -> Option<&'a [u8]>
     }
 }
 
+fn ask_check(words: &[String]) -> Asked<'_>
+    ensures { IsAsked result (spec.check_of (map string_bytes words.now)) }
+{
+    if !all_fit_check(words) {
+        return Asked::Nothing;
+    }
+    match other(words, 0) {
+        None => Asked::Nothing,
+        Some(_) => Asked::Check(words),
+    }
+}
+
 fn ask_compile(words: &[String]) -> Asked<'_>
     ensures { IsAsked result (spec.compile_of (map string_bytes words.now)) }
 {
@@ -256,13 +276,15 @@ fn ask_compile(words: &[String]) -> Asked<'_>
     let Some(choice) = once(NATIVE, words) else {
         return Asked::Nothing;
     };
-    let Some(file) = only(words) else {
-        return Asked::Nothing;
-    };
-    if choice == ALL {
-        Asked::Compile(file)
-    } else {
-        Asked::Nothing
+    match other(words, 0) {
+        None => Asked::Nothing,
+        Some(_) => {
+            if choice == ALL {
+                Asked::Compile(Chosen::All, words)
+            } else {
+                Asked::Nothing
+            }
+        }
     }
 }
 
@@ -292,7 +314,9 @@ pub fn ask(words: &[String]) -> Asked<'_>
     match words.split_first() {
         None => Asked::Nothing,
         Some((command, words)) => {
-            if command.as_str() == "compile" {
+            if command.as_str() == "check" {
+                ask_check(words)
+            } else if command.as_str() == "compile" {
                 ask_compile(words)
             } else if command.as_str() == "run" {
                 ask_run(words)

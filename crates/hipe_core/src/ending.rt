@@ -1,63 +1,57 @@
-/// What is wrong with the bytes of an image.
-#[derive(Clone, Copy, PartialEq, Eq, Debug)]
-pub enum Flaw {
-    /// The first word is not that of an image.
-    Magic,
-    /// The version is another.
-    Version,
-    /// A field is not there whole.
-    Short,
-    /// A count passes its limit.
-    Count,
-    /// A field has a value that it may not have.
-    Value,
-    /// A number does not ascend.
-    Order,
-    /// Bytes follow the last field.
-    Long,
-}
+use asm_text::TextRefusal;
+use beam_check::CheckRefusal;
+use beam_profile::ModuleRefusal;
+use native_link::ImageRefusal;
+use std::alloc::{AllocError, AllocFailed};
 
-/// Why a text is refused.
-#[derive(Clone, Copy, PartialEq, Eq, Debug)]
-pub enum TextFlaw {
-    /// A token cannot stand there, is none, or is missing.
-    Syntax,
-    /// An integer has more than 28 bits.
-    Wide,
-    /// The 201st bracket opens.
-    Deep,
-    Float,
-    Based,
-    Character,
-    Binary,
-    Map,
-}
-
-/// How a command ended.
-#[derive(Clone, Copy, PartialEq, Eq, Debug)]
-pub enum Ending {
-    /// Its output was written.
-    Done,
-    /// The outcome of a run was written, and this is its status: 0 to 2.
+/// How a command ended, with all that its line on standard error says. A file is named as the
+/// word that names it.
+#[derive(Drop)]
+pub enum Ending<'a> {
+    /// The output was written, and this is the status of what it says: 0 to 2.
     Said(u8),
-    /// Its words are none that the program knows.
+    /// The words are no command.
     Usage,
-    /// The text of a module is refused: why, and in which line.
-    TextRefused(TextFlaw, u32),
-    /// The text of the arguments is refused: why, and in which line.
-    ArgsRefused(TextFlaw, u32),
-    /// The function of the call is not exported; it is one of so many arguments.
-    NotExported(usize),
-    /// A file could not be read.
-    CannotRead,
-    /// A file holds more bytes than the limit.
-    TooLong,
-    /// The text, the image or the run is one that this stage of the program does not handle.
-    NotBuilt,
-    /// The bytes are no image: what is wrong, and the offset in bytes.
-    Refused(Flaw, u32),
+    /// The text of the arguments is refused.
+    ArgsRefused(TextRefusal),
+    /// The text of this file is none of a module.
+    ModuleRefused(&'a str, ModuleRefusal),
+    /// The modules of the files are out of the profile.
+    CheckRefused(CheckRefusal),
+    /// The bytes of this file are no image.
+    ImageRefused(&'a str, ImageRefusal),
+    /// The function with this entry and so many arguments is not exported.
+    NotExported(&'a str, usize),
+    /// This file could not be read.
+    CannotRead(&'a str),
     /// The output could not be written.
     CannotWrite,
     /// There was not enough memory.
     NoMemory,
+    /// The files up to this one hold more bytes than the limit.
+    TooLong(&'a str),
+    /// What this file asks for is none that this stage of the program does.
+    NotBuilt(&'a str),
+}
+
+impl<'a> From<AllocError> for Ending<'a> {
+    ghost use Rattle.hipe_core.specs.declared.ending.Ending.TheVariants.{NoMemory};
+    ghost use Rattle.std.specs.Prelude.{◌≡◌};
+
+    ghost from_gives = { λ _ r. r ≡ NoMemory };
+
+    fn from(_error: AllocError) -> Ending<'a> {
+        Ending::NoMemory
+    }
+}
+
+impl<'a, T: Drop> From<AllocFailed<T>> for Ending<'a> {
+    ghost use Rattle.hipe_core.specs.declared.ending.Ending.TheVariants.{NoMemory};
+    ghost use Rattle.std.specs.Prelude.{◌≡◌};
+
+    ghost from_gives = { λ _ r. r ≡ NoMemory };
+
+    fn from(_error: AllocFailed<T>) -> Ending<'a> {
+        Ending::NoMemory
+    }
 }

@@ -3,14 +3,14 @@
 ghost use Rattle.hipe_core.specs.Meaning.{CompiledRunsPrintTheirMeaning, CompiledImagesAreRead};
 ghost use Rattle.hipe_core.specs.Numbers.{TheNumbersAre};
 
-/// A law: a run on the image that is compiled of a text prints the line that the text means, with its
+/// A law: a run on the image that is compiled of texts prints the line that these mean, with its
 /// status.
 pub fn compiled_runs_print_their_meaning()
     ensures { CompiledRunsPrintTheirMeaning }
 {}
 
-/// A law: the image that is compiled of a text is read as one of the text's module, unless memory is
-/// wanting; and a run of each function that it exports without arguments prints what the text means.
+/// A law: the image that is compiled of texts is read as one of their modules, unless memory is
+/// wanting; and each function that these export without arguments is run.
 pub fn compiled_images_are_read()
     ensures { CompiledImagesAreRead }
 {}

@@ -1,12 +1,21 @@
 //! What standard error is told.
 
-ghost use Rattle.hipe_core.specs.Command.{IsSaid, flaw_name, flawed_line, line_of, status_of, text_flaw_name};
+ghost use Rattle.hipe_core.specs.Lines.{at_line, check_line, entry_text, flaw_name, function_text, image_line, image_with, kind_name, line_of, module_line, module_status, not_built_line, rule_name, status_of, text_line};
 ghost use Rattle.hipe_core.specs.Saying.{Says};
-ghost use Rattle.std.specs.Prelude.{◌≡◌, ◌++◌, []};
+ghost use Rattle.hipe_core.specs.Telling.{CanWant, Finishes, IsSayable};
+ghost use Rattle.asm_text.specs.Entry.{entry_of};
+ghost use Rattle.std.specs.Prelude.{◌≡◌, ◌++◌, IfOk, codes, decimal, is_some, string_bytes, true};
 
-use crate::{Ending, Flaw, TextFlaw};
+use crate::Ending;
+use asm_text::{Kind, TextRefusal, read_entry};
+use beam_check::{CheckRefusal, Rule};
+use beam_profile::ModuleRefusal;
 use hipe_base::{Sink, put};
-use itoa::Buffer;
+use image_format::Flaw;
+use native_link::ImageRefusal;
+use std::alloc::{AllocError, Global};
+use std::fmt::Write;
+use term_tree::{Name, name_text};
 
 /// Puts a piece, and says whether the sink took all of it.
 pub fn put_piece<S: Sink>(sink: &mut S, bytes: &[u8]) -> bool
@@ -18,63 +27,32 @@ pub fn put_piece<S: Sink>(sink: &mut S, bytes: &[u8]) -> bool
     }
 }
 
-/// Puts two pieces, one after the other.
-fn put_two<S: Sink>(sink: &mut S, a: &[u8], b: &[u8]) -> bool
-    ensures { Says result (a.now ++ b.now) (S.seen sink.old) (S.seen sink.new) }
+fn kind_name(kind: Kind) -> &'static str
+    ensures { result.now ≡ kind_name kind }
 {
-    if !put_piece(sink, a) {
-        return false;
+    match kind {
+        Kind::Float => "kind float",
+        Kind::Based => "kind based",
+        Kind::Character => "kind character",
+        Kind::Binary => "kind binary",
+        Kind::Map => "kind map",
     }
-    put_piece(sink, b)
 }
 
-/// Puts three pieces, one after the other.
-fn put_three<S: Sink>(sink: &mut S, a: &[u8], b: &[u8], c: &[u8]) -> bool
-    ensures { Says result (a.now ++ b.now ++ c.now) (S.seen sink.old) (S.seen sink.new) }
+fn rule_name(rule: Rule) -> &'static str
+    ensures { result.now ≡ rule_name rule }
 {
-    if !put_two(sink, a, b) {
-        return false;
+    match rule {
+        Rule::FallsOff => "falls_off",
+        Rule::CallTarget => "call_target",
+        Rule::BadHandler => "bad_handler",
+        Rule::Loop => "loop",
+        Rule::StackSize => "stack_size",
+        Rule::TagState => "tag_state",
+        Rule::TagOrder => "tag_order",
+        Rule::Undefined => "undefined",
+        Rule::HeapUncovered => "heap_uncovered",
     }
-    put_piece(sink, c)
-}
-
-/// Puts five pieces, one after the other.
-fn put_five<S: Sink>(sink: &mut S, a: &[u8], b: &[u8], c: &[u8], d: &[u8], e: &[u8]) -> bool
-    ensures { Says result ((a.now ++ b.now ++ c.now) ++ (d.now ++ e.now)) (S.seen sink.old) (S.seen sink.new) }
-{
-    if !put_three(sink, a, b, c) {
-        return false;
-    }
-    put_two(sink, d, e)
-}
-
-/// Puts four pieces, one after the other.
-fn put_four<S: Sink>(sink: &mut S, a: &[u8], b: &[u8], c: &[u8], d: &[u8]) -> bool
-    ensures { Says result (a.now ++ b.now ++ c.now ++ d.now) (S.seen sink.old) (S.seen sink.new) }
-{
-    if !put_three(sink, a, b, c) {
-        return false;
-    }
-    put_piece(sink, d)
-}
-
-/// Puts seven pieces, one after the other.
-fn put_seven<S: Sink>(
-    sink: &mut S,
-    a: &[u8],
-    b: &[u8],
-    c: &[u8],
-    d: &[u8],
-    e: &[u8],
-    f: &[u8],
-    g: &[u8],
-) -> bool
-    ensures { Says result ((a.now ++ b.now ++ c.now ++ d.now) ++ (e.now ++ f.now ++ g.now)) (S.seen sink.old) (S.seen sink.new) }
-{
-    if !put_four(sink, a, b, c, d) {
-        return false;
-    }
-    put_three(sink, e, f, g)
 }
 
 fn flaw_name(flaw: Flaw) -> &'static str
@@ -91,118 +69,282 @@ fn flaw_name(flaw: Flaw) -> &'static str
     }
 }
 
-fn text_flaw_name(flaw: TextFlaw) -> &'static str
-    ensures { result.now ≡ text_flaw_name flaw }
+/// About a line of a text.
+fn at_line(alloc: Global, file: &str, line: u32, why: &str) -> Result<String, AllocError>
+    ensures { IfOk result (λ t. string_bytes t ≡ at_line file.now line why.now) }
 {
-    match flaw {
-        TextFlaw::Syntax => "syntax",
-        TextFlaw::Wide => "wide",
-        TextFlaw::Deep => "deep",
-        TextFlaw::Float => "kind float",
-        TextFlaw::Based => "kind based",
-        TextFlaw::Character => "kind character",
-        TextFlaw::Binary => "kind binary",
-        TextFlaw::Map => "kind map",
+    let mut text = String::new(alloc);
+    write!(text, "hipe: {file}:{line}: {why}\n")?;
+    Ok(text)
+}
+
+fn text_line(alloc: Global, file: &str, refusal: &TextRefusal) -> Result<String, AllocError>
+    ensures { IfOk result (λ t. string_bytes t ≡ text_line file.now refusal.now) }
+{
+    match refusal {
+        TextRefusal::Syntax { line } => at_line(alloc, file, *line, "syntax"),
+        TextRefusal::Wide { line } => at_line(alloc, file, *line, "wide"),
+        TextRefusal::Deep { line } => at_line(alloc, file, *line, "deep"),
+        TextRefusal::Kind { line, kind } => at_line(alloc, file, *line, kind_name(*kind)),
+        TextRefusal::Memory(_) => String::from_str(alloc, "hipe: want of memory\n"),
     }
 }
 
-/// Says that the bytes of a file are no image.
-fn say_flaw<E: Sink>(err: &mut E, flaw: Flaw, at: u32, file: &str) -> bool
-    ensures { Says result (line_of (Ending.Refused flaw at) file.now []) (E.seen err.old) (E.seen err.new) }
+fn unsupported_text(alloc: Global, file: &str, line: u32, name: &str) -> Result<String, AllocError>
+    ensures { IfOk result (λ t. string_bytes t ≡ at_line file.now line (codes "unsupported " ++ name.now)) }
 {
-    let mut buffer = Buffer::new();
-    let offset = buffer.format(at);
-    let name = flaw_name(flaw);
-    put_seven(
-        err,
-        b"hipe: ",
-        file.as_bytes(),
-        b": image ",
-        name.as_bytes(),
-        b" at ",
-        offset.as_bytes(),
-        b"\n",
-    )
+    let mut text = String::new(alloc);
+    write!(text, "hipe: {file}:{line}: unsupported {name}\n")?;
+    Ok(text)
 }
 
-/// Says what is wrong in a line of a text.
-fn say_text_flaw<E: Sink>(err: &mut E, name: &str, flaw: TextFlaw, line: u32) -> bool
-    ensures { Says result (flawed_line name.now flaw line) (E.seen err.old) (E.seen err.new) }
+/// About an instruction that is none.
+fn unsupported_line(alloc: Global, file: &str, line: u32, name: &Name) -> Result<String, AllocError>
+    ensures { IfOk result (λ t. string_bytes t ≡ module_line file.now (ModuleRefusal.Unsupported line name.now)) }
 {
-    let mut buffer = Buffer::new();
-    let number = buffer.format(line);
-    let why = text_flaw_name(flaw);
-    put_seven(
-        err,
-        b"hipe: ",
-        name.as_bytes(),
-        b":",
-        number.as_bytes(),
-        b": ",
-        why.as_bytes(),
-        b"\n",
-    )
+    let name = name_text(alloc, name)?;
+    unsupported_text(alloc, file, line, name.as_str())
 }
 
-/// Says that a function of so many arguments is not exported.
-fn say_not_exported<E: Sink>(err: &mut E, function: &str, count: usize) -> bool
-    ensures { Says result (line_of (Ending.NotExported count) [] function.now) (E.seen err.old) (E.seen err.new) }
+fn module_line(alloc: Global, file: &str, refusal: &ModuleRefusal) -> Result<String, AllocError>
+    ensures { IfOk result (λ t. string_bytes t ≡ module_line file.now refusal.now) }
 {
-    let mut buffer = Buffer::new();
-    let number = buffer.format(count);
-    put_five(
-        err,
-        b"hipe: not exported ",
-        function.as_bytes(),
-        b"/",
-        number.as_bytes(),
-        b"\n",
-    )
-}
-
-/// Says how a command ended, and whether all of it was said.
-fn say<E: Sink>(err: &mut E, ending: Ending, file: &str, function: &str) -> bool
-    ensures { Says result (line_of ending file.now function.now) (E.seen err.old) (E.seen err.new) }
-{
-    match ending {
-        Ending::Done => true,
-        Ending::Said(_) => true,
-        Ending::TextRefused(flaw, line) => say_text_flaw(err, file, flaw, line),
-        Ending::ArgsRefused(flaw, line) => say_text_flaw(err, "args", flaw, line),
-        Ending::Refused(flaw, at) => say_flaw(err, flaw, at, file),
-        Ending::NotExported(count) => say_not_exported(err, function, count),
-        Ending::TooLong => put_three(err, b"hipe: ", file.as_bytes(), b": too long\n"),
-        Ending::Usage => put_piece(err, b"hipe: usage\n"),
-        Ending::CannotRead => put_three(err, b"hipe: cannot read ", file.as_bytes(), b"\n"),
-        Ending::NotBuilt => put_three(err, b"hipe: ", file.as_bytes(), b": not built\n"),
-        Ending::CannotWrite => put_piece(err, b"hipe: cannot write\n"),
-        Ending::NoMemory => put_piece(err, b"hipe: want of memory\n"),
+    match refusal {
+        ModuleRefusal::Text(refusal) => text_line(alloc, file, refusal),
+        ModuleRefusal::Shape { line } => at_line(alloc, file, *line, "shape"),
+        ModuleRefusal::Unsupported { line, name } => unsupported_line(alloc, file, *line, name),
+        ModuleRefusal::Register { line } => at_line(alloc, file, *line, "register"),
+        ModuleRefusal::Label { line } => at_line(alloc, file, *line, "label"),
+        ModuleRefusal::Memory(_) => String::from_str(alloc, "hipe: want of memory\n"),
     }
 }
 
-fn status(ending: Ending) -> u8
-    ensures { result ≡ status_of ending }
+fn duplicate_line(alloc: Global, name: &Name) -> Result<String, AllocError>
+    ensures { IfOk result (λ t. string_bytes t ≡ check_line (CheckRefusal.Duplicate name.now)) }
+{
+    let name = name_text(alloc, name)?;
+    let name = name.as_str();
+    let mut text = String::new(alloc);
+    write!(text, "hipe: duplicate module {name}\n")?;
+    Ok(text)
+}
+
+/// A function by its module's name, its own and its number of arguments.
+fn function_text(
+    alloc: Global,
+    owner: &Name,
+    name: &Name,
+    arity: usize,
+) -> Result<String, AllocError>
+    ensures { IfOk result (λ t. string_bytes t ≡ function_text owner.now name.now arity) }
+{
+    let owner = name_text(alloc, owner)?;
+    let name = name_text(alloc, name)?;
+    let owner = owner.as_str();
+    let name = name.as_str();
+    let mut text = String::new(alloc);
+    write!(text, "{owner}:{name}/{arity}")?;
+    Ok(text)
+}
+
+fn broken_line(alloc: Global, function: &str, item: u32, rule: Rule) -> Result<String, AllocError>
+    ensures { IfOk result (λ t. string_bytes t ≡ codes "hipe: " ++ function.now ++ codes " item " ++ decimal item ++ codes ": " ++ rule_name rule ++ codes "\n") }
+{
+    let rule = rule_name(rule);
+    let mut text = String::new(alloc);
+    write!(text, "hipe: {function} item {item}: {rule}\n")?;
+    Ok(text)
+}
+
+fn check_line(alloc: Global, refusal: &CheckRefusal) -> Result<String, AllocError>
+    ensures { IfOk result (λ t. string_bytes t ≡ check_line refusal.now) }
+{
+    match refusal {
+        CheckRefusal::Duplicate { module } => duplicate_line(alloc, module),
+        CheckRefusal::TooMany => String::from_str(alloc, "hipe: too many modules or units\n"),
+        CheckRefusal::Broken {
+            rule,
+            module,
+            function,
+            arity,
+            item,
+        } => {
+            let function = function_text(alloc, module, function, usize::from(*arity))?;
+            broken_line(alloc, function.as_str(), *item, *rule)
+        }
+        CheckRefusal::Memory(_) => String::from_str(alloc, "hipe: want of memory\n"),
+    }
+}
+
+/// About the bytes of an image.
+fn image_with(alloc: Global, file: &str, why: &str) -> Result<String, AllocError>
+    ensures { IfOk result (λ t. string_bytes t ≡ image_with file.now why.now) }
+{
+    let mut text = String::new(alloc);
+    write!(text, "hipe: {file}: image {why}\n")?;
+    Ok(text)
+}
+
+fn field_line(alloc: Global, file: &str, flaw: Flaw, at: u32) -> Result<String, AllocError>
+    ensures { IfOk result (λ t. string_bytes t ≡ image_line file.now (ImageRefusal.Field flaw at)) }
+{
+    let flaw = flaw_name(flaw);
+    let mut text = String::new(alloc);
+    write!(text, "hipe: {file}: image {flaw} at {at}\n")?;
+    Ok(text)
+}
+
+fn not_built_line(alloc: Global, file: &str) -> Result<String, AllocError>
+    ensures { IfOk result (λ t. string_bytes t ≡ not_built_line file.now) }
+{
+    let mut text = String::new(alloc);
+    write!(text, "hipe: {file}: not built\n")?;
+    Ok(text)
+}
+
+fn text_line_of_module(alloc: Global, file: &str, index: u32) -> Result<String, AllocError>
+    ensures { IfOk result (λ t. string_bytes t ≡ image_with file.now (codes "module " ++ decimal index)) }
+{
+    let mut text = String::new(alloc);
+    write!(text, "hipe: {file}: image module {index}\n")?;
+    Ok(text)
+}
+
+fn image_line(alloc: Global, file: &str, refusal: &ImageRefusal) -> Result<String, AllocError>
+    ensures { IfOk result (λ t. string_bytes t ≡ image_line file.now refusal.now) }
+{
+    match refusal {
+        ImageRefusal::Field { flaw, offset } => field_line(alloc, file, *flaw, *offset),
+        ImageRefusal::Module { index, .. } => text_line_of_module(alloc, file, *index),
+        ImageRefusal::Check(_) => image_with(alloc, file, "check"),
+        ImageRefusal::NotBuilt => not_built_line(alloc, file),
+        ImageRefusal::Memory(_) => String::from_str(alloc, "hipe: want of memory\n"),
+    }
+}
+
+fn not_exported_line(alloc: Global, entry: &str, count: usize) -> Result<String, AllocError>
+    requires { is_some (entry_of entry.now) ≡ true }
+    ensures { IfOk result (λ t. string_bytes t ≡ codes "hipe: not exported " ++ entry_text (entry_of entry.now) count ++ codes "\n") }
+{
+    let Some((owner, name)) = read_entry(alloc, entry.as_bytes())? else {
+        unreachable!()
+    };
+    let function = function_text(alloc, &owner, &name, count)?;
+    let function = function.as_str();
+    let mut text = String::new(alloc);
+    write!(text, "hipe: not exported {function}\n")?;
+    Ok(text)
+}
+
+fn cannot_read_line(alloc: Global, file: &str) -> Result<String, AllocError>
+    ensures { IfOk result (λ t. string_bytes t ≡ codes "hipe: cannot read " ++ file.now ++ codes "\n") }
+{
+    let mut text = String::new(alloc);
+    write!(text, "hipe: cannot read {file}\n")?;
+    Ok(text)
+}
+
+fn too_long_line(alloc: Global, file: &str) -> Result<String, AllocError>
+    ensures { IfOk result (λ t. string_bytes t ≡ codes "hipe: " ++ file.now ++ codes ": too long\n") }
+{
+    let mut text = String::new(alloc);
+    write!(text, "hipe: {file}: too long\n")?;
+    Ok(text)
+}
+
+fn module_status(refusal: &ModuleRefusal) -> u8
+    ensures { result ≡ module_status refusal.now }
+{
+    match refusal {
+        ModuleRefusal::Text(_) => 3,
+        ModuleRefusal::Shape { .. } => 4,
+        ModuleRefusal::Unsupported { .. } => 4,
+        ModuleRefusal::Register { .. } => 4,
+        ModuleRefusal::Label { .. } => 4,
+        ModuleRefusal::Memory(_) => 4,
+    }
+}
+
+fn status(ending: &Ending<'_>) -> u8
+    ensures { result ≡ status_of ending.now }
 {
     match ending {
-        Ending::Done => 0,
-        Ending::Said(status) => status,
-        Ending::TextRefused(_, _) => 3,
-        Ending::ArgsRefused(_, _) => 3,
-        Ending::Refused(_, _) => 5,
+        Ending::Said(status) => *status,
+        Ending::ArgsRefused(_) => 3,
+        Ending::ModuleRefused(_, refusal) => module_status(refusal),
+        Ending::CheckRefused(_) => 4,
+        Ending::ImageRefused(_, _) => 5,
         Ending::Usage => 6,
-        Ending::NotExported(_) => 6,
-        Ending::CannotRead => 7,
+        Ending::NotExported(_, _) => 6,
+        Ending::CannotRead(_) => 7,
         Ending::CannotWrite => 8,
         Ending::NoMemory => 9,
-        Ending::TooLong => 10,
-        Ending::NotBuilt => 11,
+        Ending::TooLong(_) => 10,
+        Ending::NotBuilt(_) => 11,
+    }
+}
+
+/// The line of an ending that is no output and not told without memory.
+fn line(alloc: Global, ending: &Ending<'_>) -> Result<String, AllocError>
+    requires { CanWant ending.now }
+    ensures { IfOk result (λ t. string_bytes t ≡ line_of ending.now) }
+{
+    match ending {
+        Ending::ArgsRefused(refusal) => text_line(alloc, "args", refusal),
+        Ending::ModuleRefused(file, refusal) => module_line(alloc, file, refusal),
+        Ending::CheckRefused(refusal) => check_line(alloc, refusal),
+        Ending::ImageRefused(file, refusal) => image_line(alloc, file, refusal),
+        Ending::NotExported(entry, count) => not_exported_line(alloc, entry, *count),
+        Ending::CannotRead(file) => cannot_read_line(alloc, file),
+        Ending::TooLong(file) => too_long_line(alloc, file),
+        Ending::NotBuilt(file) => not_built_line(alloc, file),
+        Ending::Said(_) | Ending::Usage | Ending::CannotWrite | Ending::NoMemory => unreachable!(),
+    }
+}
+
+/// Says a line that takes memory, or that there was none for it.
+fn say<E: Sink>(alloc: Global, err: &mut E, ending: &Ending<'_>) -> u8
+    requires { CanWant ending.now }
+    ensures { Finishes ending.now result (E.seen err.old) (E.seen err.new) }
+{
+    match line(alloc, ending) {
+        Ok(text) => {
+            put_piece(err, text.as_bytes());
+            status(ending)
+        }
+        Err(_) => {
+            put_piece(err, b"hipe: want of memory\n");
+            9
+        }
     }
 }
 
 /// Says how a command ended, and gives its status. A fault of `err` changes none.
-pub fn finish<E: Sink>(err: &mut E, ending: Ending, file: &str, function: &str) -> u8
-    ensures { IsSaid ending file.now function.now result (E.seen err.old) (E.seen err.new) }
+pub fn finish<E: Sink>(alloc: Global, err: &mut E, ending: &Ending<'_>) -> u8
+    requires { IsSayable ending.now }
+    ensures { Finishes ending.now result (E.seen err.old) (E.seen err.new) }
 {
-    let _whole = say(err, ending, file, function);
-    status(ending)
+    match ending {
+        Ending::Said(status) => *status,
+        Ending::Usage => {
+            put_piece(err, b"hipe: usage\n");
+            6
+        }
+        Ending::CannotWrite => {
+            put_piece(err, b"hipe: cannot write\n");
+            8
+        }
+        Ending::NoMemory => {
+            put_piece(err, b"hipe: want of memory\n");
+            9
+        }
+        Ending::ArgsRefused(_)
+        | Ending::ModuleRefused(_, _)
+        | Ending::CheckRefused(_)
+        | Ending::ImageRefused(_, _)
+        | Ending::NotExported(_, _)
+        | Ending::CannotRead(_)
+        | Ending::TooLong(_)
+        | Ending::NotBuilt(_) => say(alloc, err, ending),
+    }
 }

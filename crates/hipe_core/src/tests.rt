@@ -10,24 +10,145 @@ const EMPTY: &[u8] = b"{module, e}.\n{exports, []}.\n{attributes, []}.\n{labels,
 const ONE: &[u8] =
     b"{module, one}.\n{exports, [{f,0}]}.\n{attributes, []}.\n{labels, 3}.\n{function, f, 0, 2}.\n{label,1}.\n{func_info,{atom,one},{atom,f},0}.\n{label,2}.\n{move,{integer,1},{x,0}}.\nreturn.\n";
 
-/// The words of the module `one`, worked by hand from the formats of the instructions.
-const ONE_WORDS: [u32; 15] = [
-    0x80A1_A000,
-    0x0280_000A,
-    0x0300_4000,
-    0x8C21_A001,
-    0xAE23_A008,
-    0x80A5_C005,
-    0x0A80_0007,
-    0x0100_0000,
-    0x1100_0000,
-    0x81C3_E008,
-    0x9012_201F,
-    0x81C0_6004,
-    0x0100_0000,
-    0x81C0_6008,
-    0x0100_0000,
-];
+const WIDE: &str = "{module, wide}.
+{exports, []}.
+{attributes, []}.
+{labels, 2}.
+{function, f, 0, 2}.
+{label,1}.
+{func_info,{atom,wide},{atom,f},0}.
+{move,{integer,134217728},{x,0}}.
+";
+
+const RECV: &str = "{module, recv}.
+{exports, []}.
+{attributes, []}.
+{labels, 2}.
+{function, f, 0, 2}.
+{label,1}.
+{func_info,{atom,recv},{atom,f},0}.
+send.
+";
+
+const UND: &str =
+    "{test,is_atom,{f,3},[{x,0}]}.\n{move,{integer,1},{x,1}}.\n{label,3}.\n{move,{x,1},{x,0}}.\nreturn.\n";
+
+const SOUND: &str =
+    "{test,is_atom,{f,3},[{x,0}]}.\n{move,{integer,1},{x,1}}.\n{label,3}.\n{move,{x,0},{x,0}}.\nreturn.\n";
+
+const ANN: &str =
+    "{'%',{var_info,{x,0},[{type,{t_tuple,2,true,#{1 => {t_float,1.5}}}},4294967296]}}.\nreturn.\n";
+
+fn fact() -> &'static str {
+    "{module, fact}.
+{exports, [{fac,1},{module_info,0}]}.
+{attributes, []}.
+{labels, 6}.
+{function, fac, 1, 2}.
+{label,1}.
+{line,[]}.
+{func_info,{atom,fact},{atom,fac},1}.
+{label,2}.
+{test,is_eq_exact,{f,3},[{x,0},{integer,0}]}.
+{move,{integer,1},{x,0}}.
+return.
+{label,3}.
+{allocate,1,1}.
+{move,{x,0},{y,0}}.
+{gc_bif,'-',{f,0},1,[{y,0},{integer,1}],{x,0}}.
+{call,1,{f,2}}.
+{gc_bif,'*',{f,0},1,[{y,0},{x,0}],{x,0}}.
+{deallocate,1}.
+return.
+{function, module_info, 0, 5}.
+{label,4}.
+{line,[]}.
+{func_info,{atom,fact},{atom,module_info},0}.
+{label,5}.
+{move,{atom,fact},{x,0}}.
+{call_ext_only,1,{extfunc,erlang,get_module_info,1}}.
+"
+}
+
+fn tri() -> &'static str {
+    "{module, tri}.
+{exports, [{f,0},{g,0},{h,1}]}.
+{attributes, []}.
+{labels, 9}.
+{function, f, 0, 2}.
+{label,1}.
+{func_info,{atom,tri},{atom,f},0}.
+{label,2}.
+{allocate,1,0}.
+{'try',{y,0},{f,3}}.
+{call,0,{f,5}}.
+{try_end,{y,0}}.
+{deallocate,1}.
+return.
+{label,3}.
+{try_case,{y,0}}.
+{test_heap,3,2}.
+{put_tuple2,{x,0},{list,[{x,0},{x,1}]}}.
+{deallocate,1}.
+return.
+{function, g, 0, 5}.
+{label,4}.
+{func_info,{atom,tri},{atom,g},0}.
+{label,5}.
+{allocate,0,0}.
+{move,{integer,2},{x,0}}.
+{call,1,{f,7}}.
+{deallocate,0}.
+return.
+{function, h, 1, 7}.
+{label,6}.
+{func_info,{atom,tri},{atom,h},1}.
+{label,7}.
+{test,is_eq_exact,{f,8},[{x,0},{integer,1}]}.
+return.
+{label,8}.
+{badmatch,{x,0}}.
+"
+}
+
+fn nest() -> &'static str {
+    "{module, nest}.
+{exports, [{n,0}]}.
+{attributes, []}.
+{labels, 6}.
+{function, n, 0, 2}.
+{label,1}.
+{func_info,{atom,nest},{atom,n},0}.
+{label,2}.
+{allocate,2,0}.
+{'try',{y,1},{f,5}}.
+{'try',{y,0},{f,3}}.
+{move,{atom,stop},{x,0}}.
+{call_ext,1,{extfunc,erlang,exit,1}}.
+{label,3}.
+{try_case,{y,0}}.
+{test,is_eq_exact,{f,4},[{x,0},{atom,throw}]}.
+{move,{x,1},{x,0}}.
+{try_end,{y,1}}.
+{deallocate,2}.
+return.
+{label,4}.
+{bif,raise,{f,0},[{x,2},{x,1}],{x,0}}.
+{label,5}.
+{try_case,{y,1}}.
+{test_heap,3,2}.
+{put_tuple2,{x,0},{list,[{x,0},{x,1}]}}.
+{deallocate,2}.
+return.
+"
+}
+
+/// A module of one function of one argument with these items.
+fn small(alloc: Global, name: &str, items: &str) -> Result<String, AllocError> {
+    format!(in alloc;
+        "{{module, {name}}}.\n{{exports, [{{f,1}}]}}.\n{{attributes, []}}.\n{{labels, 4}}.\n{{function, f, 1, 2}}.\n{{label,1}}.\n{{func_info,{{atom,{name}}},{{atom,f}},1}}.\n{{label,2}}.\n{items}"
+    )
+}
 
 fn words_of(alloc: Global, list: &[&str]) -> Result<Vec<String>, AllocError> {
     let mut words = Vec::new(alloc);
@@ -60,6 +181,32 @@ fn files_of(alloc: Global, text: &[u8], piece: usize) -> Result<MemFiles, AllocE
 {
     let mut files = MemFiles::new(alloc, piece)?;
     files.add("e.S", text)?;
+    Ok(files)
+}
+
+/// Holds a module of one function of one argument, too.
+fn add_small(
+    alloc: Global,
+    files: &mut MemFiles,
+    file: &str,
+    name: &str,
+    items: &str,
+) -> Result<(), AllocError> {
+    let text = small(alloc, name, items)?;
+    files.add(file, text.as_str().as_bytes())
+}
+
+/// Some files, each of the text of one module, or of one that is refused.
+fn sources(alloc: Global) -> Result<MemFiles, AllocError> {
+    let mut files = MemFiles::new(alloc, 50)?;
+    files.add("fact.S", fact().as_bytes())?;
+    files.add("tri.S", tri().as_bytes())?;
+    files.add("nest.S", nest().as_bytes())?;
+    files.add("recv.S", RECV.as_bytes())?;
+    files.add("wide.S", WIDE.as_bytes())?;
+    add_small(alloc, &mut files, "und.S", "und", UND)?;
+    add_small(alloc, &mut files, "sound.S", "und", SOUND)?;
+    add_small(alloc, &mut files, "ann.S", "ann", ANN)?;
     Ok(files)
 }
 
@@ -113,16 +260,6 @@ fn an_image_is_written(rt: HostRuntime) -> Result<(), Fail> {
     Ok(())
 }
 
-#[test]
-fn the_code_of_one(rt: HostRuntime) -> Result<(), Fail> {
-    let alloc = rt.alloc();
-    let words = emit(alloc, 1, 2)?;
-    assert_eq!(rt; words.as_slice(), ONE_WORDS.as_slice());
-    let told = run_command(alloc, &["compile", "--native=all", "e.S"], ONE, NEVER)?;
-    assert_eq!(rt; told.status, 0);
-    Ok(())
-}
-
 /// Whether a command ended with this status and said this on standard error alone.
 fn has_said(told: &Told, status: u8, line: &str) -> bool {
     told.status == status && told.err.bytes() == line.as_bytes() && told.out.bytes().is_empty()
@@ -167,7 +304,9 @@ fn words_are_refused(rt: HostRuntime) -> Result<(), Fail> {
         &["compile", "--native=none", "e.S"],
         &["compile", "--native=all", "--native=all", "e.S"],
         &["compile", "--native=all", "--heap=1", "e.S"],
-        &["compile", "--native=all", "e.S", "e.S"],
+        &["check"],
+        &["check", "--native=all", "e.S"],
+        &["check", "--"],
         &["--native=all", "compile", "e.S"],
         &["run", "e.S", "one:f"],
         &["run", "e.S", "one", "[]"],
@@ -207,14 +346,87 @@ fn texts_are_refused(rt: HostRuntime) -> Result<(), Fail> {
         ("134217728.", 3, "hipe: e.S:1: wide\n"),
         ("{x,0},}.", 3, "hipe: e.S:1: syntax\n"),
         ("{module, e}", 3, "hipe: e.S:1: syntax\n"),
-        ("", 11, "hipe: e.S: not built\n"),
-        ("{module, e}.", 11, "hipe: e.S: not built\n"),
+        ("", 4, "hipe: e.S:1: shape\n"),
+        ("{module, e}.", 4, "hipe: e.S:1: shape\n"),
+        (
+            "{module,e}. {exports,[]}. {attributes,[]}. {labels,2}. {function,f,0,2}. {label,1}.\n{func_info,{atom,e},{atom,f},0}.\n'other one'.",
+            4,
+            "hipe: e.S:3: unsupported 'other one'\n",
+        ),
     ] {
-        let words = ["compile", "e.S", "--native=all"];
-        assert!(rt;
-            says(rt.alloc(), &words, text.as_bytes(), status, line)?,
-            "{text}"
-        );
+        for words in [
+            ["compile", "e.S", "--native=all"].as_slice(),
+            &["check", "e.S"],
+        ] {
+            assert!(rt;
+                says(rt.alloc(), words, text.as_bytes(), status, line)?,
+                "{text}"
+            );
+        }
+    }
+    Ok(())
+}
+
+/// Whether a command over the sources ends with this status, and one of the sinks took this alone.
+fn tells(alloc: Global, list: &[&str], status: u8, text: &str) -> Result<bool, AllocError> {
+    let mut files = sources(alloc)?;
+    let told = told_of(alloc, list, &mut files, NEVER)?;
+    let (full, empty) = if status < 3 {
+        (&told.out, &told.err)
+    } else {
+        (&told.err, &told.out)
+    };
+    Ok(told.status == status && full.bytes() == text.as_bytes() && empty.bytes().is_empty())
+}
+
+#[test]
+fn modules_are_checked(rt: HostRuntime) -> Result<(), Fail> {
+    let alloc = rt.alloc();
+    for (file, status, text) in [
+        ("fact.S", 0, "ok fact: 2 functions, 24 units\n"),
+        ("ann.S", 0, "ok ann: 1 functions, 6 units\n"),
+        ("sound.S", 0, "ok und: 1 functions, 9 units\n"),
+        ("und.S", 4, "hipe: und:f/1 item 6: undefined\n"),
+        ("recv.S", 4, "hipe: recv.S:8: unsupported send\n"),
+        ("wide.S", 3, "hipe: wide.S:8: wide\n"),
+    ] {
+        let words = ["check", file];
+        assert!(rt; tells(alloc, &words, status, text)?, "{file}");
+    }
+    Ok(())
+}
+
+#[test]
+fn files_are_checked_in_order(rt: HostRuntime) -> Result<(), Fail> {
+    let alloc = rt.alloc();
+    for (first, second, status, text) in [
+        (
+            "tri.S",
+            "nest.S",
+            0,
+            "ok tri: 3 functions, 34 units\nok nest: 1 functions, 26 units\n",
+        ),
+        ("fact.S", "fact.S", 4, "hipe: duplicate module fact\n"),
+        ("recv.S", "wide.S", 4, "hipe: recv.S:8: unsupported send\n"),
+        ("und.S", "wide.S", 3, "hipe: wide.S:8: wide\n"),
+        ("wide.S", "none.S", 7, "hipe: cannot read none.S\n"),
+    ] {
+        let words = ["check", first, second];
+        assert!(rt; tells(alloc, &words, status, text)?, "{first} {second}");
+    }
+    Ok(())
+}
+
+#[test]
+fn modules_are_not_built(rt: HostRuntime) -> Result<(), Fail> {
+    let alloc = rt.alloc();
+    for (first, second, status, text) in [
+        ("fact.S", "tri.S", 11, "hipe: fact.S: not built\n"),
+        ("ann.S", "tri.S", 11, "hipe: ann.S: not built\n"),
+        ("und.S", "tri.S", 4, "hipe: und:f/1 item 6: undefined\n"),
+    ] {
+        let words = ["compile", first, "--native=all", second];
+        assert!(rt; tells(alloc, &words, status, text)?, "{first} {second}");
     }
     Ok(())
 }
@@ -237,10 +449,36 @@ fn long_file(alloc: Global) -> Result<MemFiles, AllocError> {
 #[test]
 fn long_texts_are_refused(rt: HostRuntime) -> Result<(), Fail> {
     let alloc = rt.alloc();
-    let words = ["compile", "--native=all", "e.S"];
-    let mut files = long_file(alloc)?;
-    let told = told_of(alloc, &words, &mut files, NEVER)?;
-    assert!(rt; has_said(&told, 10, "hipe: e.S: too long\n"));
+    for words in [&["compile", "--native=all", "e.S"][..], &["check", "e.S"]] {
+        let mut files = long_file(alloc)?;
+        let told = told_of(alloc, words, &mut files, NEVER)?;
+        assert!(rt; has_said(&told, 10, "hipe: e.S: too long\n"));
+    }
+    Ok(())
+}
+
+/// The files with an empty module, and one of half the bytes that texts may have.
+fn half_files(alloc: Global) -> Result<MemFiles, AllocError> {
+    let half = vec![in alloc; b' '; 2_097_152]?;
+    let mut files = files_of(alloc, EMPTY, 100_000)?;
+    files.add("half", half.as_slice())?;
+    Ok(files)
+}
+
+/// The bytes of files are counted together.
+#[test]
+fn two_files_are_too_long(rt: HostRuntime) -> Result<(), Fail> {
+    let alloc = rt.alloc();
+    for (second, third, status, line) in [
+        ("half", "e.S", 10, "hipe: e.S: too long\n"),
+        ("e.S", "half", 10, "hipe: half: too long\n"),
+        ("half", "--", 6, "hipe: usage\n"),
+    ] {
+        let words = ["check", "half", second, third];
+        let mut files = half_files(alloc)?;
+        let told = told_of(alloc, &words, &mut files, NEVER)?;
+        assert!(rt; has_said(&told, status, line), "{second} {third}");
+    }
     Ok(())
 }
 
@@ -258,13 +496,37 @@ fn files_and_sinks_fail(rt: HostRuntime) -> Result<(), Fail> {
 }
 
 #[test]
-fn a_plain_text_is_known_by_its_forms(rt: HostRuntime) -> Result<(), Fail> {
+fn a_text_is_known_by_its_forms(rt: HostRuntime) -> Result<(), Fail> {
     let alloc = rt.alloc();
     let text =
         b"%% by hand\n{'module', 'e e'} . {exports, [{'F',0}]}. {attributes, \"\"}.\n{labels, 3}.\n{function, 'F', 0, 2}. {label,1}. {func_info,{atom,'e e'},{atom,'F'},0}.\n{label,2}. {move,{integer,-007},{x,0}}. return.";
     let image = image_of(alloc, text)?;
     let run = ["run", "e.S", "'e e':'\\x46'", " [ % none\n ] "];
     assert!(rt; prints(alloc, &run, image.as_slice(), 0, "return -7\n")?);
+    Ok(())
+}
+
+/// Items that do nothing, the last of two moves, and a function that returns its argument, which no
+/// run has yet.
+#[test]
+fn trivial_functions_are_compiled(rt: HostRuntime) -> Result<(), Fail> {
+    let alloc = rt.alloc();
+    let text =
+        b"{module,e}. {exports,[{f,0},{g,1}]}. {attributes,[]}. {labels,5}.\n{function,f,0,2}. {label,1}. {line,[]}. {func_info,{atom,e},{atom,f},0}.\n{label,2}. {'%',{note,#{}}}. {move,{integer,5},{x,0}}. {line,[]}. {move,{integer,7},{x,0}}. return.\n{function,g,1,4}. {label,3}. {func_info,{atom,e},{atom,g},1}. {label,4}. return.";
+    let image = image_of(alloc, text)?;
+    let run = ["run", "e.S", "e:f", "[]"];
+    assert!(rt; prints(alloc, &run, image.as_slice(), 0, "return 7\n")?);
+    for (args, status, line) in [
+        ("[1]", 11, "hipe: e.S: not built\n"),
+        ("[{a,[]}]", 11, "hipe: e.S: not built\n"),
+        ("[]", 6, "hipe: not exported e:g/0\n"),
+    ] {
+        let words = ["run", "e.S", "e:g", args, "--heap=0"];
+        assert!(rt;
+            says(alloc, &words, image.as_slice(), status, line)?,
+            "{args}"
+        );
+    }
     Ok(())
 }
 
@@ -386,5 +648,26 @@ fn images_are_refused(rt: HostRuntime) -> Result<(), Fail> {
     );
     let cut = &image.as_slice()[..image.len().min(270)];
     assert!(rt; says(alloc, &words, cut, 5, "hipe: e.S: image short at 268\n")?);
+    for (at, byte, line) in [
+        (7, 3, "hipe: e.S: image version at 4\n"),
+        (11, 0, "hipe: e.S: image count at 8\n"),
+        (284, 0, "hipe: e.S: image long at 284\n"),
+        (25, b'E', "hipe: e.S: image module 0\n"),
+        (267, 1, "hipe: e.S: image short at 284\n"),
+    ] {
+        let damaged = with_byte(alloc, image.as_slice(), at, byte)?;
+        assert!(rt; says(alloc, &words, damaged.as_slice(), 5, line)?, "{line}");
+    }
     Ok(())
+}
+
+/// The bytes with another byte at a place, or with one more behind them.
+fn with_byte(alloc: Global, bytes: &[u8], at: usize, byte: u8) -> Result<Vec<u8>, AllocError> {
+    let mut changed = Vec::from_slice(alloc, bytes)?;
+    if at < changed.len() {
+        changed[at] = byte;
+    } else {
+        changed.push(byte)?;
+    }
+    Ok(changed)
 }

@@ -1,6 +1,7 @@
-//! Images of `native_link`: bytes made by hand are read and written again, and damaged ones are refused at their fault.
+//! Images: bytes made by hand are read and written again, and damaged ones are refused at their fault.
 
-use native_link::{ImageRefusal, MOST_IMAGE_BYTES, image_bytes, read_image, read_parts};
+use image_format::{FormatRefusal, MOST_IMAGE_BYTES, image_bytes, read_parts};
+use native_link::{ImageRefusal, read_image};
 use std::alloc::{AllocError, Global};
 use std::process::Abort;
 use std::test::Fail;
@@ -87,6 +88,18 @@ fn empty_image(alloc: Global) -> Result<Draft, AllocError> {
     Ok(draft)
 }
 
+/// The image of two modules without functions, which have these texts.
+fn image_of_two(alloc: Global, first: &str, second: &str) -> Result<Draft, AllocError> {
+    let mut draft = Draft::new(alloc);
+    head(&mut draft)?;
+    draft.word(2)?;
+    draft.text(first)?;
+    draft.text(second)?;
+    atoms(&mut draft)?;
+    draft.words(&[0, 0, 0, 0, 0])?;
+    Ok(draft)
+}
+
 /// An image with two texts, literals, roots, native functions and descriptors.
 fn full_image(alloc: Global) -> Result<Draft, AllocError> {
     let mut draft = Draft::new(alloc);
@@ -140,7 +153,7 @@ fn image_said(alloc: Global, bytes: &[u8]) -> Result<String, AllocError> {
 }
 
 /// The parts of these bytes, written again.
-fn again(alloc: Global, bytes: &[u8]) -> Result<Vec<u8>, ImageRefusal> {
+fn again(alloc: Global, bytes: &[u8]) -> Result<Vec<u8>, FormatRefusal> {
     if bytes.len() > MOST_IMAGE_BYTES {
         return Ok(Vec::new(alloc));
     }
@@ -156,11 +169,11 @@ fn asked(alloc: Global, bytes: &[u8]) -> Result<(usize, bool), ImageRefusal> {
     }
     let image = read_image(alloc, bytes)?;
     let known = image.native_entry(0).is_some() || image.find(0).is_some();
-    Ok((image.modules().len(), known))
+    Ok((image.checked().modules().len(), known))
 }
 
 /// The live slots of all descriptors.
-fn live_slots(alloc: Global, bytes: &[u8]) -> Result<Vec<u32>, ImageRefusal> {
+fn live_slots(alloc: Global, bytes: &[u8]) -> Result<Vec<u32>, FormatRefusal> {
     let mut slots = Vec::new(alloc);
     if bytes.len() > MOST_IMAGE_BYTES {
         return Ok(slots);
@@ -227,7 +240,7 @@ fn cut_anywhere(rt: HostRuntime) -> Result<(), Fail> {
     for len in 0..draft.bytes.len() {
         let field = field_at(draft.fields.as_slice(), len);
         let short = said(rt.alloc(), &draft.bytes[..len])?;
-        let wanted = format!(in rt.alloc(); "Short {{ offset: {field} }}")?;
+        let wanted = format!(in rt.alloc(); "Field {{ flaw: Short, offset: {field} }}")?;
         same(&rt, short.as_str(), wanted.as_str());
     }
     Ok(())
@@ -237,7 +250,7 @@ fn cut_anywhere(rt: HostRuntime) -> Result<(), Fail> {
 fn cut_in_the_last_function(rt: HostRuntime) -> Result<(), Fail> {
     let draft = empty_image(rt.alloc())?;
     let short = said(rt.alloc(), draft.bytes.get(..270).unwrap_or(&[]))?;
-    same(&rt, short.as_str(), "Short { offset: 268 }");
+    same(&rt, short.as_str(), "Field { flaw: Short, offset: 268 }");
     Ok(())
 }
 
@@ -246,7 +259,7 @@ fn one_byte_more(rt: HostRuntime) -> Result<(), Fail> {
     let mut draft = empty_image(rt.alloc())?;
     draft.bytes.push(0)?;
     let long = said(rt.alloc(), &draft.bytes)?;
-    same(&rt, long.as_str(), "Long { offset: 284 }");
+    same(&rt, long.as_str(), "Field { flaw: Long, offset: 284 }");
     Ok(())
 }
 
@@ -301,13 +314,10 @@ fn said_with(alloc: Global, draft: &Draft, at: usize, number: u32) -> Result<Str
     said(alloc, &bytes)
 }
 
-/// A fault, with the place of its field but for the first two.
+/// A fault with the place of its field.
 fn fault_at(alloc: Global, draft: &Draft, fault: &str, field: usize) -> Result<String, AllocError> {
-    if field < 2 {
-        return String::from_str(alloc, fault);
-    }
     let offset = start_of(draft, field);
-    format!(in alloc; "{fault} {{ offset: {offset} }}")
+    format!(in alloc; "Field {{ flaw: {fault}, offset: {offset} }}")
 }
 
 #[test]
@@ -328,6 +338,21 @@ fn missing_atom(rt: HostRuntime) -> Result<(), Fail> {
     let draft = empty_image(rt.alloc())?;
     let bytes = with_word(rt.alloc(), &draft.bytes, start_of(&draft, 35), 0x66000000)?;
     let refusal = image_said(rt.alloc(), &bytes)?;
-    same(&rt, refusal.as_str(), "Value { offset: 76 }");
+    same(&rt, refusal.as_str(), "Field { flaw: Value, offset: 76 }");
+    Ok(())
+}
+
+#[test]
+fn texts_of_no_modules(rt: HostRuntime) -> Result<(), Fail> {
+    let send = "{module, f}.\n{exports, []}.\n{attributes, []}.\n{labels, 1}.\nsend.\n";
+    for (second, refusal) in [
+        (EMPTY_MODULE, "Check(Duplicate {"),
+        (send, "Module { index: 1, refusal: Shape { line: 5 }"),
+        ("{a", "Module { index: 1, refusal: Text(Syntax { line: 1 })"),
+    ] {
+        let draft = image_of_two(rt.alloc(), EMPTY_MODULE, second)?;
+        let said = image_said(rt.alloc(), &draft.bytes)?;
+        assert!(rt; said.as_str().starts_with(refusal), "{said}");
+    }
     Ok(())
 }

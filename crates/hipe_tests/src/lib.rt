@@ -10,8 +10,6 @@ mod machines;
 #[cfg(test)]
 mod modules;
 #[cfg(test)]
-mod plain_modules;
-#[cfg(test)]
 mod rows_of_data;
 #[cfg(test)]
 mod rows_of_flow;

@@ -3,7 +3,7 @@ use Rattle.std.proofs.Common.{◌≡◌, ℕ, List, suc, ◌+◌, ◌-◌, ◌^�
 use Rattle.std.specs.Prelude.{Option, Some, None}
 use Rattle.mode_switch.specs.Call.{Call, loaded, run_of, start}
 use Rattle.beam_code.specs.declared.module.Module.{Module}
-use Rattle.native_link.specs.declared.parts.Parts.{Parts}
+use Rattle.image_format.specs.declared.parts.Parts.{Parts}
 use Rattle.mode_switch.specs.Machine.{Progress, Ran, answered, finish_of, opened, one_more, ran, ran_for, ran_to, ran_with, steps_taken, taken_after, after_step, answer_of, stepped, stepped_with, step_answer, step_answer_with}
 use Rattle.mode_switch.specs.Run.{bound, full_step, mixed_run}
 use Rattle.mode_switch.specs.State.{Finish, Loaded, MixedState}

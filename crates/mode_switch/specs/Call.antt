@@ -6,8 +6,8 @@ use Rattle.beam_code.specs.declared.call.Limits.{Limits}
 use Rattle.beam_code.specs.declared.module.Module.{Module}
 use Rattle.beam_code.specs.Function.{exported_number}
 use Rattle.beam_code.specs.Meaning.{words_in}
-use Rattle.native_link.specs.declared.parts.Parts.{Parts}
-use Rattle.native_link.specs.Fitting.{IsWord}
+use Rattle.image_format.specs.declared.parts.Parts.{Parts}
+use Rattle.image_format.specs.Fitting.{IsWord}
 use Rattle.tagged_words.specs.declared.addresses.TheConstants.{HEAP_START}
 use Rattle.tagged_words.specs.Laid.{laid_in_turn, words_in_turn, with_atoms_of}
 use Rattle.term_tree.specs.declared.term.Term.{Term}

@@ -6,8 +6,8 @@ use Rattle.beam_code.specs.Function.{Placed, function_at, all_functions, items_i
 use Rattle.mode_switch.specs.declared.addresses.TheConstants.{GATE_START, GATES, ITEM_START}
 use Rattle.mode_switch.specs.declared.destination.Destination.{Destination}
 use Rattle.mode_switch.specs.declared.destination.Destination.TheVariants.{Gate, Item, Word, Nowhere}
-use Rattle.native_link.specs.declared.limits.TheConstants.{CODE_START}
-use Rattle.native_link.specs.declared.parts.Native.{Native}
+use Rattle.image_format.specs.declared.limits.TheConstants.{CODE_START}
+use Rattle.image_format.specs.declared.parts.Native.{Native}
 use Rattle.native_link.specs.Lookup.{native_entry_of}
 
 -- a guard is a gate for the built-ins that only compute

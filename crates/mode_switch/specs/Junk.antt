@@ -2,7 +2,7 @@
 use Rattle.std.specs.Prelude.{ℕ, ◌≡◌, ◌+◌, ◌-◌, ◌/◌, ◌%◌, ◌<◌, Bool, ◌||◌, Option, Some, None, List, [], ◌∷◌, ◌++◌, nat_eq, if◌then◌else◌, length, take, drop, slice_index, map}
 use Rattle.std.specs.List.{list_any}
 use Rattle.beam_code.specs.Function.{Placed, all_functions}
-use Rattle.native_link.specs.declared.parts.Descriptor.{Descriptor}
+use Rattle.image_format.specs.declared.parts.Descriptor.{Descriptor}
 use Rattle.native_link.specs.Lookup.{descriptor_of, entry_address as native_address}
 use Rattle.sparc_code.specs.Step.{register, in_word}
 use Rattle.tagged_words.specs.Region.{Region, words_at}

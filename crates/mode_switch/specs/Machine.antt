@@ -1,5 +1,5 @@
 -- How far a call on the machine has come, and what its steps and its run make of that (docs/MACHINE.md, Runs).
-use Rattle.std.specs.Prelude.{ℕ, ◌≡◌, zero, suc, ◌+◌, ◌-◌, ◌^◌, ◌≤◌, Option, Some, None, Result, Ok, Err, List, [], length, min}
+use Rattle.std.specs.Prelude.{ℕ, ◌≡◌, zero, suc, ◌+◌, ◌-◌, ◌^◌, ◌<◌, ◌≤◌, Option, Some, None, Result, Ok, Err, List, [], length, min}
 use Rattle.beam_code.specs.Function.{exported_number}
 use Rattle.mode_switch.specs.Call.{Call, call_of, loaded, start}
 use Rattle.mode_switch.specs.Junk.{IsPlaceIn}
@@ -8,8 +8,8 @@ use Rattle.small_step.specs.Stage.{Stage, Still, Done}
 use Rattle.beam_code.specs.Function.{items_of}
 use Rattle.beam_code.specs.declared.call.Limits.{Limits}
 use Rattle.beam_code.specs.declared.module.Module.{Module}
-use Rattle.native_link.specs.declared.limits.TheConstants.{MOST_CODE}
-use Rattle.native_link.specs.declared.parts.Parts.{Parts}
+use Rattle.image_format.specs.declared.limits.TheConstants.{MOST_CODE}
+use Rattle.image_format.specs.declared.parts.Parts.{Parts}
 use Rattle.mode_switch.specs.declared.addresses.TheConstants.{MOST_REDUCTIONS, MOST_ITEMS}
 use Rattle.mode_switch.specs.declared.outcome.Outcome.{Outcome}
 use Rattle.mode_switch.specs.declared.outcome.Outcome.TheVariants.{Ended}
@@ -120,6 +120,12 @@ pub record IsOpened (ms : List Module) (parts : Parts) (owner name : List ℕ) (
   pub function : ℕ
   pub exported : exported_number ms owner name (length args) ≡ Some function
   pub is : p ≡ opened ms parts (call_of function args limits junk)
+
+-- the function of this name is exported with arguments
+pub record IsWithArgs (ms : List Module) (owner name : List ℕ) (args : List Term) : Type 0 where
+  pub function : ℕ
+  pub exported : exported_number ms owner name (length args) ≡ Some function
+  pub some : 0 < length args
 
 -- what a machine keeps true: the number of items is theirs, the bound fits 64 bits, the names are those of the image,
 -- and there is no junk

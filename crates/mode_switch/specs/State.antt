@@ -3,7 +3,7 @@ use Rattle.std.specs.Prelude.{ℕ, List}
 use Rattle.beam_code.specs.declared.call.Limits.{Limits}
 use Rattle.beam_code.specs.declared.module.Module.{Module}
 use Rattle.mode_switch.specs.declared.outcome.Outcome.{Outcome}
-use Rattle.native_link.specs.declared.parts.Parts.{Parts}
+use Rattle.image_format.specs.declared.parts.Parts.{Parts}
 use Rattle.sparc_code.specs.declared.machine.Regs.{Regs}
 use Rattle.tagged_words.specs.Region.{Region}
 

@@ -5,7 +5,7 @@ ghost use Rattle.std.specs.Prelude.{◌≡◌};
 
 use crate::addresses::{GATE_START, GATES, ITEM_START};
 use beam_code::{BUILT_INS, FIRST_RAISER, GATE_BADARG, GATE_BUILT_INS, GATE_GUARDS, LAST_RAISER};
-use native_link::CODE_START;
+use image_format::CODE_START;
 
 /// Where an address leads: to a gate, an item or a code word, each by its number, or to none.
 #[derive(Clone, Copy, PartialEq, Eq, Debug)]

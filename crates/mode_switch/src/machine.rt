@@ -2,7 +2,7 @@
 
 ghost use Rattle.beam_code.specs.Function.{exported_number};
 ghost use Rattle.mode_switch.specs.Call.{IsInRange};
-ghost use Rattle.mode_switch.specs.Machine.{IsOpened, stage_of, stepped, step_answer, ran};
+ghost use Rattle.mode_switch.specs.Machine.{IsOpened, IsWithArgs, stage_of, stepped, step_answer, ran};
 ghost use Rattle.mode_switch.specs.Run.{bound, full_step};
 ghost use Rattle.mode_switch.specs.Step.{native_step};
 ghost use Rattle.mode_switch.specs.Text.{said};
@@ -69,13 +69,17 @@ pub enum OpenRefusal {
     /// The words of the arguments pass the limit of the heap.
     #[error("the arguments do not fit the heap")]
     ArgsDoNotFit,
+    /// The call has arguments, which the machine does not lay out yet.
+    #[error("not built")]
+    NotBuilt,
     #[error("want of memory")]
     Memory(AllocError),
 }
 
 impl Machine {
-    /// The machine before the first step of a call, with all memory that it ever needs. For now no
-    /// function with arguments is exported, so that none is too long, and there is no junk.
+    /// The machine before the first step of a call, with all memory that it ever needs. For now a
+    /// call of a function that is exported has no arguments, or is refused as not built whether
+    /// they fit or not, and there is no junk.
     pub fn open(
         alloc: Global,
         image: Image,
@@ -88,6 +92,7 @@ impl Machine {
         ensures opened { IfOk result (IsOpened image.modules image.parts call.«module» call.function call.args limits junk.items) }
         ensures not_exported { IsErrOf result OpenRefusal.NotExported ↔ (exported_number image.modules call.«module» call.function (length call.args) ≡ None) }
         ensures no_args { OnOk result (call.args ≡ []) }
+        ensures not_built { IsErrOf result OpenRefusal.NotBuilt → IsWithArgs image.modules call.«module» call.function call.args }
         ensures args_fit { IsErrOf result OpenRefusal.ArgsDoNotFit → ⊥ }
     {
         match start_of(alloc, &image, &call, &limits) {

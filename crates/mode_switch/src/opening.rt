@@ -1,20 +1,18 @@
 //! What a machine begins a call with.
 
-ghost use Rattle.beam_code.specs.Function.{all_functions, exported_number, is_named, items_of};
+ghost use Rattle.beam_code.specs.Function.{exported_number, function_at, items_of};
 ghost use Rattle.mode_switch.specs.Call.{IsInRange};
-ghost use Rattle.mode_switch.specs.Destination.{entry_address};
-ghost use Rattle.mode_switch.specs.Lookup.{IsLoadable, entry_at};
-ghost use Rattle.mode_switch.specs.Opening.{IsStart, opening};
-ghost use Rattle.mode_switch.specs.Run.{first_state};
-ghost use Rattle.native_link.specs.Fitting.{IsFitting};
-ghost use Rattle.native_link.specs.Lookup.{native_entry_of};
-ghost use Rattle.std.specs.Option.{option_map};
-ghost use Rattle.std.specs.Prelude.{◌≡◌, ◌+◌, ◌<◌, ◌^◌, ◌↔◌, None, length, IfOk, IfSome, IsErrOf};
+ghost use Rattle.mode_switch.specs.Destination.{entry_address, item_entry};
+ghost use Rattle.mode_switch.specs.Lookup.{IsLoadable};
+ghost use Rattle.mode_switch.specs.Opening.{IsLow, Starts, opening};
+ghost use Rattle.image_format.specs.Fitting.{IsFitting};
+ghost use Rattle.std.specs.Prelude.{◌≡◌, ◌+◌, ◌<◌, ◌^◌, length, IfOk};
 
 use crate::addresses::ITEM_START;
 use crate::hardware::Hardware;
-use crate::lookup::{Spot, is_exported, items_of_modules, spot_of};
+use crate::lookup::items_of_modules;
 use crate::machine::{Call, OpenRefusal};
+use beam_check::Checked;
 use beam_code::Limits;
 use native_link::Image;
 use std::alloc::{AllocError, Global};
@@ -28,31 +26,44 @@ pub(crate) struct Start {
     pub(crate) hardware: Hardware,
 }
 
-/// The entry of the function that stands at a spot.
-fn entry_of(image: &Image, spot: Spot) -> u32
-    requires { entry_at (native_entry_of image.now.parts.natives spot.number) spot + 4 < 2 ^ 32 }
-    ensures { result ≡ entry_at (native_entry_of image.now.parts.natives spot.number) spot }
+/// The address of a function's entry item.
+fn item_entry(checked: &Checked, fid: u32) -> u32
+    requires { IsLoadable checked.now }
+    ensures entry { result ≡ item_entry checked.now fid (function_at checked.now fid) }
+    ensures fits { result + 4 < 2 ^ 32 }
 {
-    match image.native_entry(spot.number) {
+    let Some(first) = checked.first_item(fid) else {
+        return 0;
+    };
+    let Some(function) = checked.function(fid) else {
+        return 0;
+    };
+    ITEM_START + 4 * (first + function.entry)
+}
+
+/// The address where a call of a function begins.
+fn entry_of(image: &Image, fid: u32) -> u32
+    requires fitting { IsFitting image.now.parts }
+    requires loadable { IsLoadable image.now.modules }
+    ensures entry { result ≡ entry_address image.now.modules image.now.parts.natives fid }
+    ensures fits { result + 4 < 2 ^ 32 }
+{
+    match image.native_entry(fid) {
         Some(entry) => entry,
-        None => ITEM_START + 4 * (spot.first + spot.entry),
+        None => item_entry(image.checked(), fid),
     }
 }
 
-/// The entry of the function that a call names, if it is exported.
-fn entry_of_call(image: &Image, call: &Call) -> Option<u32>
-    requires fitting { IsFitting image.now.parts }
-    requires loadable { IsLoadable image.now.modules }
-    ensures entry { result ≡ option_map (entry_address image.now.modules image.now.parts.natives) (exported_number image.now.modules call.now.«module» call.now.function (length call.now.args)) }
-    ensures fits { IfSome result (λ entry. entry + 4 < 2 ^ 32) }
+/// The number of the function that a call names, if it is exported.
+fn function_of(checked: &Checked, call: &Call) -> Option<u32>
+    requires { IsLow checked.now }
+    ensures { result ≡ exported_number checked.now call.now.«module» call.now.function (length call.now.args) }
 {
     let arity = call.args.len();
-    if is_exported(image.modules(), &call.module, &call.function, arity) {
-        let spot = spot_of(image.modules(), &call.module, &call.function, arity)?;
-        Some(entry_of(image, spot))
-    } else {
-        None
+    if arity > usize::from(u8::MAX) {
+        return None;
     }
+    checked.exported(&call.module, &call.function, arity as u8)
 }
 
 /// What a call begins with that goes in at an entry.
@@ -62,7 +73,7 @@ fn start_at(alloc: Global, image: &Image, limits: &Limits, entry: u32) -> Result
     requires entry { entry + 4 < 2 ^ 32 }
     ensures { IfOk result (λ s. s ≡ opening image.now.modules image.now.parts limits.now entry) }
 {
-    let items = items_of_modules(image.modules());
+    let items = items_of_modules(image.checked().modules());
     let atoms = image.atoms(alloc)?;
     let hardware = Hardware::start(alloc, limits, entry)?;
     Ok(Start {
@@ -81,15 +92,17 @@ pub(crate) fn start_of(
 ) -> Result<Start, OpenRefusal>
     requires fitting { IsFitting image.now.parts }
     requires loadable { IsLoadable image.now.modules }
+    requires low { IsLow image.now.modules }
     requires limits { IsInRange limits.now }
-    ensures start { IfOk result (IsStart image.now.modules image.now.parts limits.now (exported_number image.now.modules call.now.«module» call.now.function (length call.now.args))) }
-    ensures not_exported { IsErrOf result OpenRefusal.NotExported ↔ (exported_number image.now.modules call.now.«module» call.now.function (length call.now.args) ≡ None) }
-    ensures args_fit { IsErrOf result OpenRefusal.ArgsDoNotFit → ⊥ }
+    ensures start { Starts image.now.modules image.now.parts limits.now (exported_number image.now.modules call.now.«module» call.now.function (length call.now.args)) (length call.now.args) result }
 {
-    let Some(entry) = entry_of_call(image, call) else {
+    let Some(function) = function_of(image.checked(), call) else {
         return Err(OpenRefusal::NotExported);
     };
-    match start_at(alloc, image, limits, entry) {
+    if !call.args.is_empty() {
+        return Err(OpenRefusal::NotBuilt);
+    }
+    match start_at(alloc, image, limits, entry_of(image, function)) {
         Ok(start) => Ok(start),
         Err(e) => Err(OpenRefusal::Memory(e)),
     }

@@ -1,16 +1,12 @@
 -- The atoms of terms, and tables of distinct atoms.
-use Rattle.std.proofs.Common.{◌≡◌, ℕ, ℤ, zero, suc, ◌+◌, ◌<◌, Bool, true, false, List, [], ◌∷◌, ◌++◌, length, get_or, take, map, Some, None, refl, sym, ap, subst, ◌∙◌, append_assoc, arith}
-use Rattle.std.specs.Prelude.{◌&&◌, ◌==◌}
+use Rattle.std.proofs.Common.{◌≡◌, ℕ, ℤ, Bool, true, false, List, [], ◌∷◌, map, Some, None, refl, ap, ◌∙◌}
+use Rattle.std.specs.Prelude.{◌&&◌}
 use Rattle.std.specs.List.{list_all}
-use Rattle.std.specs.Cmp.Lexicographic.{pointwise}
-use Rattle.std.proofs.lemmas.List.{append-nil, take_more}
 use Rattle.term_tree.specs.declared.term.Term as t
 use Rattle.term_tree.specs.declared.term.Term.{Term, fold-Term, fold-roll-Term, roll-Term}
 use Rattle.term_tree.specs.declared.term.Term.TheOpen.{Term-F}
 use denote.Hole.Carrier.{roll}
-use Rattle.indexmap.specs.IndexSet.{insert_key}
-use Rattle.tagged_words.specs.Atoms.{IsNew, and_atom, is_among}
-use Rattle.tagged_words.specs.Follow.{Follow}
+use Rattle.tagged_words.specs.Atoms.{is_among}
 use Rattle.native_link.specs.Known.{knows_term, layer_known}
 
 all_known : (f : Term → Bool) (all : List Term) → list_all (λ b. b) (map f all) ≡ list_all f all

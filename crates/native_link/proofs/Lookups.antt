@@ -2,9 +2,9 @@
 use Rattle.std.proofs.Common.{◌≡◌, ℕ, Bool, cond, zero, suc, ◌+◌, ◌<◌, ◌≤◌, List, [], ◌∷◌, length, get_or, Some, None, refl, sym, ap, ◌∙◌, arith, inl, inr}
 use Rattle.std.specs.Prelude.{◌⊎◌}
 use Rattle.std.proofs.lemmas.Bool.{cases_lt, cases_eq, eq-eqb, ne_eqb}
-use Rattle.native_link.specs.declared.parts.Native.{Native}
-use Rattle.native_link.specs.declared.parts.Descriptor.{Descriptor}
-use Rattle.native_link.specs.Fitting.{Turn, NativeFits, after_native, DescriptorFits, after_descriptor, total_count}
+use Rattle.image_format.specs.declared.parts.Native.{Native}
+use Rattle.image_format.specs.declared.parts.Descriptor.{Descriptor}
+use Rattle.image_format.specs.Fitting.{Turn, NativeFits, after_native, DescriptorFits, after_descriptor, total_count}
 use Rattle.tagged_words.specs.Follow.{Follow}
 use Rattle.native_link.specs.Lookup.{with_key, native_of, Splits}
 

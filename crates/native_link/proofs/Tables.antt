@@ -1,22 +1,19 @@
 -- The atoms of an image are a table.
-use Rattle.std.proofs.Common.{◌≡◌, ◌≤◌, Bool, true, false, List, ℕ, length, Option, Some, None, Result, Ok, Err, refl, arith}
+use Rattle.std.proofs.Common.{◌≡◌, Bool, true, false, ℕ, length, Result, Ok, Err, refl, arith}
 use Rattle.std.specs.Prelude.{◌&&◌, if◌then◌else◌, position}
 use Rattle.std.specs.List.{list_all}
 use Rattle.beam_code.specs.Function.{all_functions}
-use Rattle.beam_code.specs.declared.module.Module.{Module}
-use Rattle.native_link.specs.Checking.{Linked, atom_count_offset, checking, has_atoms, is_foreign, natives_checked}
+use Rattle.native_link.specs.Checking.{Linked, atom_count_offset, has_atoms, is_foreign, natives_checked, wrong}
 use Rattle.native_link.specs.Image.{IsLinked}
 use Rattle.native_link.specs.Known.{knows_module}
-use Rattle.native_link.specs.declared.parts.Parts.{Parts}
-use Rattle.native_link.specs.declared.refusal.ImageRefusal.{ImageRefusal}
-use Rattle.native_link.specs.declared.refusal.ImageRefusal.TheVariants.{Value}
+use Rattle.image_format.specs.Cursor.{FieldFault}
 use Rattle.tagged_words.specs.Atoms.{IsTable, begins, first_atoms}
 
 both : (a b : Bool) → a && b ≡ true → a ≡ true
 both true b h = refl
 both false b h = h
 
-has_if : (a : Bool) (x : Result (Unit {0}) ImageRefusal) (at : ℕ) → (if a then x else Err (Value at)) ≡ Ok tt → a ≡ true
+has_if : (a : Bool) (x : Result (Unit {0}) FieldFault) (at : ℕ) → (if a then x else Err (wrong at)) ≡ Ok tt → a ≡ true
 has_if true x at h = refl
 has_if false x at h = absurd cc
 

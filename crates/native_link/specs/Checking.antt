@@ -3,15 +3,14 @@ use Rattle.std.specs.Prelude.{ℕ, ◌+◌, ◌*◌, Bool, ◌&&◌, not, Option
 use Rattle.std.specs.List.{list_all}
 use Rattle.beam_code.specs.declared.module.Module.{Module}
 use Rattle.beam_code.specs.Function.{all_functions}
-use Rattle.native_link.specs.declared.limits.TheConstants.{MAGIC, VERSION}
-use Rattle.native_link.specs.declared.parts.Native.{Native}
-use Rattle.native_link.specs.declared.parts.Parts.{Parts}
-use Rattle.native_link.specs.declared.refusal.ImageRefusal.{ImageRefusal}
-use Rattle.native_link.specs.declared.refusal.ImageRefusal.TheVariants.{Value}
+use Rattle.image_format.specs.declared.limits.TheConstants.{MAGIC, VERSION}
+use Rattle.image_format.specs.declared.parts.Native.{Native}
+use Rattle.image_format.specs.declared.parts.Parts.{Parts}
+use Rattle.image_format.specs.declared.refusal.Flaw.TheVariants.{Value}
 use Rattle.tagged_words.specs.Atoms.{begins, first_atoms}
 use Rattle.native_link.specs.Known.{knows_module}
-use Rattle.native_link.specs.Cursor.{◌>>=◌}
-use Rattle.native_link.specs.Spelling.{word, text, counted}
+use Rattle.image_format.specs.Cursor.{FieldFault, ◌>>=◌}
+use Rattle.image_format.specs.Spelling.{word, text, counted}
 
 -- where the count of the atoms stands: behind the bytes of the fields before it
 abbrev pub atom_count_offset : Parts → ℕ
@@ -30,14 +29,18 @@ has_atoms table ms = begins first_atoms table && list_all (knows_module table) m
 abbrev pub is_foreign : ℕ → Native → Bool
 is_foreign functions n = not (nat_lt n.fid functions)
 
-abbrev pub natives_checked : Parts → Option ℕ → Result (Unit {0}) ImageRefusal
-natives_checked p None = Ok tt
-natives_checked p (Some i) = Err (Value (native_offset p i))
+-- the field at an offset has a value that it may not have
+abbrev pub wrong : ℕ → FieldFault
+wrong offset = record { flaw = Value; offset = offset }
 
-abbrev pub checking : Parts → List Module → Result (Unit {0}) ImageRefusal
+abbrev pub natives_checked : Parts → Option ℕ → Result (Unit {0}) FieldFault
+natives_checked p None = Ok tt
+natives_checked p (Some i) = Err (wrong (native_offset p i))
+
+abbrev pub checking : Parts → List Module → Result (Unit {0}) FieldFault
 checking p ms =
     if has_atoms p.atoms ms then natives_checked p (position (is_foreign (length (all_functions ms))) p.natives)
-    else Err (Value (atom_count_offset p))
+    else Err (wrong (atom_count_offset p))
 
 -- the parts of an image, and the modules of its texts
 pub record Linked : Type 0 where
@@ -48,7 +51,7 @@ abbrev pub linked : Parts → List Module → Linked
 linked p ms = record { parts = p; modules = ms }
 
 -- the image of these, or what the modules ask for in vain
-abbrev pub checked_image : Parts → List Module → Result Linked ImageRefusal
+abbrev pub checked_image : Parts → List Module → Result Linked FieldFault
 checked_image p ms = do
   done ← checking p ms
   Ok (linked p ms)

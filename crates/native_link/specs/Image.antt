@@ -1,75 +1,71 @@
--- An image that was read (docs/FORMAT.md): its parts meet the rules, and its modules ask no more of them.
-use Rattle.std.specs.Prelude.{ℕ, ◌≡◌, ◌⊎◌, Bool, true, false, not, ◌||◌, ◌==◌, List, [], ◌∷◌, length, Option, Some, None, Result, Ok, Err}
+-- An image that was read (docs/FORMAT.md): its parts meet the rules, its texts are those of modules in the profile, and
+-- these ask no more of the parts.
+use Rattle.std.specs.Prelude.{ℕ, ◌≡◌, ◌⊎◌, Bool, true, false, not, ◌||◌, ◌==◌, List, length, Result, Ok, Err}
 use Rattle.beam_code.specs.declared.module.Module.{Module}
-use Rattle.plain_text.specs.Reading.{IsPlainText, IsNotPlain}
-use Rattle.native_link.specs.declared.parts.Parts.{Parts}
-use Rattle.native_link.specs.declared.refusal.ImageRefusal.{ImageRefusal}
-use Rattle.native_link.specs.declared.refusal.ImageRefusal.TheVariants.{NotBuilt, Memory}
+use Rattle.image_format.specs.declared.parts.Parts.{Parts}
+use Rattle.image_format.specs.declared.refusal.Flaw.{Flaw}
+use Rattle.image_format.specs.declared.refusal.FormatRefusal.{FormatRefusal}
+use Rattle.image_format.specs.declared.refusal.FormatRefusal.TheVariants as format
+use Rattle.image_format.specs.Cursor.{FieldFault}
+use Rattle.image_format.specs.Fitting.{IsFitting, IsSized}
+use Rattle.image_format.specs.Reading.{reading}
+use Rattle.module_texts.specs.Texts.{AreOut, AreProfiled, IsUnread}
 use Rattle.native_link.specs.Checking.{Linked, checking}
-use Rattle.native_link.specs.Fitting.{IsFitting, IsSized}
-use Rattle.native_link.specs.Reading.{reading}
+use Rattle.native_link.specs.declared.refusal.ImageRefusal.{ImageRefusal}
+use Rattle.native_link.specs.declared.refusal.ImageRefusal.TheVariants as image
 
--- the text is plain, and this is its module; or it is not plain
-abbrev pub IsModuleOf : List ℕ → Option Module → Type 0
-IsModuleOf text (Some m) = IsPlainText text m
-IsModuleOf text None = IsNotPlain text
-
--- the modules are those of the texts, in their order
-abbrev pub AreReadings : List (List ℕ) → List Module → Type 0
-AreReadings [] [] = Unit {0}
-AreReadings [] (m ∷ ms) = ⊥
-AreReadings (t ∷ ts) [] = ⊥
-AreReadings (t ∷ ts) (m ∷ ms) = IsModuleOf t (Some m) × AreReadings ts ms
-
--- what an image keeps true: the parts meet the rules, the modules are those of the texts, and they ask no more
+-- what an image keeps true
 pub record IsLinked (l : Linked) : Type 0 where
   pub fitting : IsFitting l.parts
   pub sized : IsSized l.parts
-  pub read : AreReadings l.parts.texts l.modules
+  pub profiled : AreProfiled l.parts.texts l.modules
   pub checked : checking l.parts l.modules ≡ Ok tt
-
--- some text is that of no module
-abbrev pub SomeUnread : List (List ℕ) → Type 0
-SomeUnread [] = ⊥
-SomeUnread (t ∷ ts) = IsModuleOf t None ⊎ SomeUnread ts
-
-abbrev pub TextsRead : List (List ℕ) → Option (List Module) → Type 0
-TextsRead texts None = SomeUnread texts
-TextsRead texts (Some ms) = AreReadings texts ms
 
 -- whether there is more than texts, atoms, native functions and code
 abbrev pub has_more : Parts → Bool
 has_more p = not (length p.literals == 0) || not (length p.roots == 0) || not (length p.descriptors == 0)
 
--- the bytes have these parts, and nothing is left unread
-pub record Readable (bytes : List ℕ) (p : Parts) (ms : List Module) : Type 0 where
+-- the bytes have these parts, and there is no more to them
+pub record HasParts (bytes : List ℕ) (p : Parts) : Type 0 where
   pub parts : reading bytes ≡ Ok p
-  pub modules : AreReadings p.texts ms
-  pub nothing_more : has_more p ≡ false
+  pub no_more : has_more p ≡ false
 
--- the bytes have parts, and something is left unread
-pub record Unreadable (bytes : List ℕ) : Type 0 where
-  pub part : Parts
-  pub parts : reading bytes ≡ Ok part
-  pub more : SomeUnread part.texts ⊎ (has_more part ≡ true)
+-- and the texts are those of these modules in the profile
+pub record Readable (bytes : List ℕ) (p : Parts) (ms : List Module) : Type 0 where
+  pub has : HasParts bytes p
+  pub profiled : AreProfiled p.texts ms
 
--- a refusal of the second pass
-pub record Refused (bytes : List ℕ) (e : ImageRefusal) : Type 0 where
-  pub part : Parts
+-- a field of the parts is refused by what the modules ask of it
+pub record IsAskedInVain (bytes : List ℕ) (fault : FieldFault) : Type 0 where
+  pub parts : Parts
   pub modules : List Module
-  pub read : Readable bytes part modules
-  pub fault : checking part modules ≡ Err e
+  pub read : Readable bytes parts modules
+  pub is : checking parts modules ≡ Err fault
 
--- what reading an image answers: the image, or the first fault of the two passes
+abbrev pub at_field : Flaw → ℕ → FieldFault
+at_field flaw offset = record { flaw = flaw; offset = offset }
+
+-- what reading an image answers: the image; or the first field that breaks its rule; or that there is more to the parts;
+-- or the first text that is none of a module; or why the modules are out of the profile; or the first field that they
+-- refuse
 abbrev pub Answers : List ℕ → Result Linked ImageRefusal → Type 0
-Answers bytes (Ok i) = Readable bytes i.parts i.modules × (checking i.parts i.modules ≡ Ok tt)
-Answers bytes (Err (Memory e)) = Unit {0}
-Answers bytes (Err NotBuilt) = Unreadable bytes
-Answers bytes (Err e) = (reading bytes ≡ Err e) ⊎ Refused bytes e
+Answers bytes (Ok l) = Readable bytes l.parts l.modules × (checking l.parts l.modules ≡ Ok tt)
+Answers bytes (Err (image.Field flaw offset)) = (reading bytes ≡ Err (at_field flaw offset)) ⊎ IsAskedInVain bytes (at_field flaw offset)
+Answers bytes (Err image.NotBuilt) = (p : Parts) × (reading bytes ≡ Ok p) × (has_more p ≡ true)
+Answers bytes (Err (image.Module index e)) = (p : Parts) × HasParts bytes p × IsUnread p.texts index e
+Answers bytes (Err (image.Check r)) = (p : Parts) × HasParts bytes p × AreOut p.texts r
+Answers bytes (Err (image.Memory e)) = Unit {0}
 
--- the modules of an image's texts, or that something is left unread
+-- the modules of an image's texts, or why there are none
 abbrev pub Built : Result (List Module) ImageRefusal → Parts → Type 0
-Built (Ok ms) p = AreReadings p.texts ms × (has_more p ≡ false)
-Built (Err (Memory e)) p = Unit {0}
-Built (Err NotBuilt) p = SomeUnread p.texts ⊎ (has_more p ≡ true)
-Built (Err e) p = ⊥
+Built (Ok ms) p = AreProfiled p.texts ms × (has_more p ≡ false)
+Built (Err (image.Field flaw offset)) p = ⊥
+Built (Err image.NotBuilt) p = has_more p ≡ true
+Built (Err (image.Module index e)) p = IsUnread p.texts index e × (has_more p ≡ false)
+Built (Err (image.Check r)) p = AreOut p.texts r × (has_more p ≡ false)
+Built (Err (image.Memory e)) p = Unit {0}
+
+-- the refusal of a field, as one of an image
+abbrev pub of_format : FormatRefusal → ImageRefusal
+of_format (format.Field flaw offset) = image.Field flaw offset
+of_format (format.Memory e) = image.Memory e

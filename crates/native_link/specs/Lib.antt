@@ -1,10 +1,4 @@
-pub mod Mask
-pub mod Spelling
-pub mod Fitting
-pub mod Cursor
-pub mod Reading
 pub mod Lookup
 pub mod Known
 pub mod Checking
 pub mod Image
-pub mod Numbers

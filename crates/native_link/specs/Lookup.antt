@@ -1,9 +1,9 @@
 -- Looking up native functions and descriptors by their numbers (docs/FORMAT.md, docs/MACHINE.md).
 use Rattle.std.specs.Prelude.{ℕ, ◌+◌, ◌*◌, ◌<◌, ◌≤◌, Option, Some, None, List, [], ◌∷◌, length, slice_index_or, nat_eq, if◌then◌else◌}
 use Rattle.std.specs.Option.{option_map}
-use Rattle.native_link.specs.declared.limits.TheConstants.{CODE_START}
-use Rattle.native_link.specs.declared.parts.Native.{Native}
-use Rattle.native_link.specs.declared.parts.Descriptor.{Descriptor}
+use Rattle.image_format.specs.declared.limits.TheConstants.{CODE_START}
+use Rattle.image_format.specs.declared.parts.Native.{Native}
+use Rattle.image_format.specs.declared.parts.Descriptor.{Descriptor}
 
 -- the first one with a key
 abbrev pub with_key : {A : Type 0} → (A → ℕ) → List A → ℕ → Option A

@@ -1,20 +1,20 @@
 //! What the modules of an image ask of its other parts.
 
 ghost use Rattle.beam_code.specs.Function.{all_functions};
-ghost use Rattle.native_link.specs.Checking.{atom_count_offset, native_offset, has_atoms, is_foreign, checking, linked};
-ghost use Rattle.native_link.specs.Fitting.{IsFitting, IsSized};
+ghost use Rattle.native_link.specs.Checking.{atom_count_offset, native_offset, has_atoms, is_foreign, checking};
+ghost use Rattle.image_format.specs.Cursor.{Gives};
+ghost use Rattle.image_format.specs.Fitting.{IsFitting, IsSized};
 ghost use Rattle.tagged_words.specs.Follow.{Follow};
 ghost use Rattle.tagged_words.specs.Atoms.{IsNew, and_atom, begins, first_atoms};
-ghost use Rattle.native_link.specs.Cursor.{Gives};
-ghost use Rattle.native_link.specs.Spelling.{text, spelling};
-ghost use Rattle.native_link.specs.declared.limits.TheConstants.{MOST_ATOMS, MOST_IMAGE_BYTES};
+ghost use Rattle.image_format.specs.Spelling.{text, spelling};
+ghost use Rattle.image_format.specs.declared.limits.TheConstants.{MOST_ATOMS, MOST_IMAGE_BYTES};
 ghost use Rattle.std.specs.List.{flat_map};
 ghost use Rattle.std.specs.Prelude.{◌≡◌, ◌==◌, ◌<◌, ◌≤◌, [], Ok, IfOk, length, map, position};
 
 use crate::known::are_modules_known;
-use crate::reader::padding_of;
-use crate::{ImageRefusal, Native, Parts};
+use beam_check::Checked;
 use beam_code::Module;
+use image_format::{Flaw, FormatRefusal, Native, Parts, padding_of};
 use sqlite_items::Items;
 use std::alloc::{AllocError, Global};
 use tagged_words::{Atoms, has_first_atoms};
@@ -76,43 +76,32 @@ fn offset_of_native(parts: &Parts, index: usize) -> u32
     (28 + texts + names + 4 * words + 12 * index) as u32
 }
 
-fn count_functions(modules: &[Module]) -> u128
-    ensures { result ≡ length (all_functions modules.now) }
-{
-    let mut count: u128 = 0;
-    for module in modules {
-        count += module.functions.len() as u128;
-    }
-    count
-}
-
-fn first_foreign(natives: &[Native], functions: u128) -> Option<usize>
+fn first_foreign(natives: &[Native], functions: u32) -> Option<usize>
     ensures { result ≡ position (is_foreign functions) natives.now }
 {
-    natives
-        .iter()
-        .position(|native| native.fid as u128 >= functions)
+    natives.iter().position(|native| native.fid >= functions)
 }
 
 /// Looks at the atoms and then at the native functions.
 pub(crate) fn check_modules(
     alloc: Global,
     parts: &Parts,
-    modules: &[Module],
-) -> Result<(), ImageRefusal>
+    checked: &Checked,
+) -> Result<(), FormatRefusal>
     requires fitting { IsFitting parts.now }
     requires size { length (spelling parts.now) ≤ MOST_IMAGE_BYTES }
-    ensures { Gives (λ u. u) result (checking parts.now modules.now) }
+    ensures { Gives (λ u. u) result (checking parts.now checked.now) }
 {
-    if !has_all_atoms(alloc, parts.atoms.as_slice(), modules)? {
+    let flaw = Flaw::Value;
+    if !has_all_atoms(alloc, parts.atoms.as_slice(), checked.modules())? {
         let offset = offset_of_atom_count(parts);
-        return Err(ImageRefusal::Value { offset });
+        return Err(FormatRefusal::Field { flaw, offset });
     }
-    match first_foreign(parts.natives.as_slice(), count_functions(modules)) {
+    match first_foreign(parts.natives.as_slice(), checked.functions()) {
         None => Ok(()),
         Some(index) => {
             let offset = offset_of_native(parts, index);
-            Err(ImageRefusal::Value { offset })
+            Err(FormatRefusal::Field { flaw, offset })
         }
     }
 }

@@ -1,32 +1,34 @@
 //! An image that was read, and what it is asked for.
 
 ghost use Rattle.native_link.specs.Checking.{checked_image};
-ghost use Rattle.native_link.specs.Fitting.{IsFitting, IsSized, total_length, NativeFits, after_native, first_turn, DescriptorFits, after_descriptor};
+ghost use Rattle.image_format.specs.Cursor.{Gives};
+ghost use Rattle.image_format.specs.Fitting.{IsFitting, IsSized, total_length, NativeFits, after_native, first_turn, DescriptorFits, after_descriptor};
 ghost use Rattle.tagged_words.specs.Follow.{Follow};
-ghost use Rattle.native_link.specs.Image.{AreReadings, IsModuleOf, TextsRead, Built, Answers, has_more};
+ghost use Rattle.native_link.specs.Image.{Built, Answers, has_more};
 ghost use Rattle.native_link.specs.Lookup.{native_of, native_entry_of, descriptor_of, Splits};
-ghost use Rattle.native_link.specs.Cursor.{Gives};
-ghost use Rattle.native_link.specs.Spelling.{spelling};
-ghost use Rattle.native_link.specs.declared.limits.TheConstants.{MOST_IMAGE_BYTES};
+ghost use Rattle.image_format.specs.Reading.{reading};
+ghost use Rattle.image_format.specs.Reading.{reading};
+ghost use Rattle.image_format.specs.Spelling.{spelling};
+ghost use Rattle.beam_code.specs.declared.module.TheConstants.{MOST_TEXT_BYTES};
+ghost use Rattle.image_format.specs.declared.limits.TheConstants.{MOST_IMAGE_BYTES, MOST_MODULES};
+ghost use Rattle.module_texts.specs.Texts.{AreProfiled};
 ghost use Rattle.std.specs.Option.{option_copied};
-ghost use Rattle.std.specs.Prelude.{◌≡◌, ◌≤◌, All, IfOk, length};
+ghost use Rattle.std.specs.Prelude.{◌≡◌, ◌≤◌, IfErr, IfOk, Err, Ok, length};
 
+use crate::ImageRefusal;
 use crate::checking::check_modules;
-use crate::reading::read_parts;
-use crate::{CODE_START, Descriptor, ImageRefusal, Native, Parts};
-use asm_text::TextRefusal;
-use beam_code::{MOST_TEXT_BYTES, Module};
-use plain_text::read_plain;
-use sqlite_items::Items;
+use beam_check::Checked;
+use image_format::{CODE_START, Descriptor, FormatRefusal, Native, Parts, read_parts};
+use module_texts::{TextsRefusal, check_texts};
 use std::alloc::{AllocError, Global};
 use std::marker::Model;
 use tagged_words::Atoms;
 
 /// The parts of an image that was read, with the modules of its texts. Contracts see both.
-#[derive(Drop, Debug)]
+#[derive(Drop)]
 pub struct Image {
     parts: Parts,
-    modules: Items<Module>,
+    checked: Checked,
 }
 
 impl Model for Image {
@@ -40,22 +42,22 @@ impl Model for Image {
 
     ghost coded = { Prim.hlevel (codes, term.the_row.coded) };
 
-    ghost view = { λ i. linked i.parts i.modules };
+    ghost view = { λ i. linked i.parts i.checked };
 
-    ghost invariant = { λ i. IsLinked (linked i.parts i.modules) };
+    ghost invariant = { λ i. IsLinked (linked i.parts i.checked) };
 }
 
 /// The image of these parts and the modules of their texts, where the modules ask no more of the
 /// parts.
-fn check_parts(alloc: Global, parts: Parts, modules: Items<Module>) -> Result<Image, ImageRefusal>
+fn check_parts(alloc: Global, parts: Parts, checked: Checked) -> Result<Image, FormatRefusal>
     requires fitting { IsFitting parts }
     requires sized { IsSized parts }
-    requires read { AreReadings parts.texts modules }
+    requires profiled { AreProfiled parts.texts checked }
     requires size { length (spelling parts) ≤ MOST_IMAGE_BYTES }
-    ensures { Gives (λ i. i) result (checked_image parts modules) }
+    ensures { Gives (λ i. i) result (checked_image parts checked) }
 {
-    check_modules(alloc, &parts, modules.as_slice())?;
-    Ok(Image { parts, modules })
+    check_modules(alloc, &parts, &checked)?;
+    Ok(Image { parts, checked })
 }
 
 /// The first place where the number is not less than `fid`.
@@ -118,49 +120,42 @@ fn descriptor_with(descriptors: &[Descriptor], ret: u32) -> Option<&Descriptor>
     }
 }
 
-/// The module of a text, where it is plain.
-fn module_of(alloc: Global, text: &[u8]) -> Result<Option<Module>, AllocError>
-    requires { length text.now ≤ MOST_TEXT_BYTES }
-    ensures { IfOk result (IsModuleOf text.now) }
-{
-    match read_plain(alloc, text) {
-        Ok(module) => Ok(module),
-        Err(TextRefusal::Memory(e)) => Err(e),
-        Err(_) => Ok(None),
-    }
-}
-
-/// The modules of these texts, where each is plain.
-fn modules_of(alloc: Global, texts: &[Items<u8>]) -> Result<Option<Items<Module>>, AllocError>
-    requires { All (λ t. length t ≤ MOST_TEXT_BYTES) texts.now }
-    ensures { IfOk result (TextsRead texts.now) }
-{
-    let mut modules = Items::new(alloc);
-    for text in texts {
-        match module_of(alloc, text.as_slice())? {
-            None => return Ok(None),
-            Some(module) => modules.push(module)?,
-        }
-    }
-    Ok(Some(modules))
-}
-
 fn is_more(parts: &Parts) -> bool
     ensures { result ≡ has_more parts.now }
 {
     parts.literals.len() != 0 || parts.roots.len() != 0 || parts.descriptors.len() != 0
 }
 
-fn built_of(alloc: Global, parts: &Parts) -> Result<Items<Module>, ImageRefusal>
-    requires { total_length parts.now.texts ≤ MOST_TEXT_BYTES }
+/// The modules of the texts of these parts, where there is no more to them.
+fn built_of(alloc: Global, parts: &Parts) -> Result<Checked, ImageRefusal>
+    requires few { length parts.now.texts ≤ MOST_MODULES }
+    requires short { total_length parts.now.texts ≤ MOST_TEXT_BYTES }
     ensures { Built result parts.now }
 {
     if is_more(parts) {
         return Err(ImageRefusal::NotBuilt);
     }
-    match modules_of(alloc, parts.texts.as_slice())? {
-        None => Err(ImageRefusal::NotBuilt),
-        Some(modules) => Ok(modules),
+    match check_texts(alloc, parts.texts.as_slice()) {
+        Ok(checked) => Ok(checked),
+        Err(TextsRefusal::Module { index, refusal }) => {
+            let index = index as u32;
+            Err(ImageRefusal::Module { index, refusal })
+        }
+        Err(TextsRefusal::Check(refusal)) => Err(ImageRefusal::Check(refusal)),
+        Err(TextsRefusal::Memory(e)) => Err(ImageRefusal::Memory(e)),
+    }
+}
+
+/// The parts that the bytes have, by the first pass.
+fn parts_of(alloc: Global, bytes: &[u8]) -> Result<Parts, ImageRefusal>
+    requires { length bytes.now ≤ MOST_IMAGE_BYTES }
+    ensures found { IfOk result (λ p. IsFitting p × IsSized p × (bytes.now ≡ spelling p)) }
+    ensures read { IfOk result (λ p. reading bytes.now ≡ Ok p) }
+    ensures fault { IfErr result (λ e. Answers bytes.now (Err e)) }
+{
+    match read_parts(alloc, bytes) {
+        Ok(parts) => Ok(parts),
+        Err(e) => Err(ImageRefusal::from(e)),
     }
 }
 
@@ -170,9 +165,10 @@ pub fn read_image(alloc: Global, bytes: &[u8]) -> Result<Image, ImageRefusal>
     ensures spelled { IfOk result (λ i. bytes.now ≡ spelling i.parts) }
     ensures answer { Answers bytes.now result }
 {
-    let parts = read_parts(alloc, bytes)?;
-    let modules = built_of(alloc, &parts)?;
-    check_parts(alloc, parts, modules)
+    let parts = parts_of(alloc, bytes)?;
+    let checked = built_of(alloc, &parts)?;
+    let image = check_parts(alloc, parts, checked)?;
+    Ok(image)
 }
 
 impl Image {
@@ -183,11 +179,11 @@ impl Image {
         &self.parts
     }
 
-    /// The modules of its texts.
-    pub fn modules(&self) -> &[Module]
+    /// The modules of its texts, in the profile.
+    pub fn checked(&self) -> &Checked
         ensures { result.now ≡ self.now.modules }
     {
-        self.modules.as_slice()
+        &self.checked
     }
 
     /// The atoms of the image by number.

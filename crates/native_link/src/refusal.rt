@@ -1,55 +1,40 @@
+ghost use Rattle.native_link.specs.Image.{of_format};
 ghost use Rattle.std.specs.Prelude.{◌≡◌};
-ghost use Rattle.native_link.specs.declared.refusal.ImageRefusal.TheVariants.{Memory};
-ghost use Rattle.std.specs.Prelude.{alloc_error};
 
-use std::alloc::{AllocError, AllocFailed};
+use beam_check::CheckRefusal;
+use beam_profile::ModuleRefusal;
+use image_format::{Flaw, FormatRefusal};
+use std::alloc::AllocError;
 use thiserror::Error;
 
-/// Why bytes are no image. `offset` is the place of the first byte of the field at fault, counted
-/// from 0.
+/// Why bytes are no image.
 #[derive(Debug, Drop, Error)]
 pub enum ImageRefusal {
-    /// The first word is not that of an image.
-    #[error("no image")]
-    Magic,
-    /// The version is not 1.
-    #[error("another version of images")]
-    Version,
-    /// The bytes do not hold the field whole.
-    #[error("an image ends inside a field")]
-    Short { offset: u32 },
-    /// A count or a length passes its limit.
-    #[error("a count passes its limit")]
-    Count { offset: u32 },
-    /// A field has a value that it may not have.
-    #[error("a field has a wrong value")]
-    Value { offset: u32 },
-    /// A number does not ascend.
-    #[error("a number does not ascend")]
-    Order { offset: u32 },
-    /// Bytes follow the last field.
-    #[error("bytes follow the last field")]
-    Long { offset: u32 },
-    /// The bytes are an image so far, but one that is not read yet: a text is not plain, or there
-    /// is a literal word, a root or a descriptor.
+    /// A field breaks its rule, or what the modules ask of it. `offset` is the place of its first
+    /// byte, in bytes from 0.
+    #[error("a field is wrong")]
+    Field { flaw: Flaw, offset: u32 },
+    /// The bytes are an image so far, but one that is not read yet: there is a literal word, a root
+    /// or a descriptor.
     #[error("not built")]
     NotBuilt,
+    /// The first text that is none of a module, by its place from 0, and why.
+    #[error("a text is none of a module")]
+    Module { index: u32, refusal: ModuleRefusal },
+    /// The modules are out of the profile.
+    #[error("the modules are out of the profile")]
+    Check(CheckRefusal),
     #[error("want of memory")]
     Memory(AllocError),
 }
 
-impl From<AllocError> for ImageRefusal {
-    ghost from_gives = { λ _ e. e ≡ Memory alloc_error };
+impl From<FormatRefusal> for ImageRefusal {
+    ghost from_gives = { λ e r. r ≡ of_format e };
 
-    fn from(e: AllocError) -> ImageRefusal {
-        ImageRefusal::Memory(e)
-    }
-}
-
-impl<T: Drop> From<AllocFailed<T>> for ImageRefusal {
-    ghost from_gives = { λ _ e. e ≡ Memory alloc_error };
-
-    fn from(_e: AllocFailed<T>) -> ImageRefusal {
-        ImageRefusal::Memory(AllocError)
+    fn from(refusal: FormatRefusal) -> ImageRefusal {
+        match refusal {
+            FormatRefusal::Field { flaw, offset } => ImageRefusal::Field { flaw, offset },
+            FormatRefusal::Memory(e) => ImageRefusal::Memory(e),
+        }
     }
 }

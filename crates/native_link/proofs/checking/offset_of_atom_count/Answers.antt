@@ -1,6 +1,6 @@
 use Rattle.std.proofs.Common.{length, ap, ◌∙◌, arith}
 use Rattle.std.specs.List.{flat_map}
-use Rattle.native_link.specs.Spelling.{text}
+use Rattle.image_format.specs.Spelling.{text}
 use Rattle.native_link.proofs.Sizes.{atom_count_size}
 use Rattle.native_link.proofs.checking.offset_of_atom_count.Goals as goal
 

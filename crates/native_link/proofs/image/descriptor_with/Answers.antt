@@ -1,6 +1,6 @@
 use Rattle.std.proofs.Common.{Some, sym, ap, ◌∙◌, arith}
 use Rattle.std.proofs.lemmas.List.{get_or_default}
-use Rattle.native_link.specs.declared.parts.Descriptor.{Descriptor}
+use Rattle.image_format.specs.declared.parts.Descriptor.{Descriptor}
 use Rattle.native_link.proofs.Lookups.{descriptors_rise, found, not_found}
 use Rattle.native_link.proofs.image.descriptor_with.Goals as goal
 use Rattle.native_link.proofs.image.descriptor_with.Goals.{else-place-descriptors-via-then-place-descriptors+else-descriptors-place, else-place-descriptors-via-else-place-descriptors}

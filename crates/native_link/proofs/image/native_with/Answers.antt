@@ -1,7 +1,7 @@
 use Rattle.std.proofs.Common.{sym, ap, ◌∙◌, arith}
 use Rattle.std.proofs.lemmas.List.{get_or_default}
-use Rattle.native_link.specs.declared.parts.Native.{Native}
-use Rattle.native_link.specs.Fitting.{first_turn}
+use Rattle.image_format.specs.declared.parts.Native.{Native}
+use Rattle.image_format.specs.Fitting.{first_turn}
 use Rattle.native_link.proofs.Lookups.{natives_rise, found, not_found}
 use Rattle.native_link.proofs.image.native_with.Goals as goal
 use Rattle.native_link.proofs.image.native_with.Goals.{else-place-natives-via-then-place-natives+else-natives-place, else-place-natives-via-else-place-natives}

@@ -1,5 +1,5 @@
 use Rattle.std.proofs.Common.{◌+◌, ◌-◌, ◌/◌, ap, arith}
-use Rattle.native_link.specs.declared.parts.Descriptor.{Descriptor}
+use Rattle.image_format.specs.declared.parts.Descriptor.{Descriptor}
 use Rattle.native_link.proofs.Lookups.{descriptors_rise, goes_up, goes_down}
 use Rattle.native_link.proofs.image.place_of_descriptor.Goals as goal
 

@@ -1,6 +1,6 @@
 use Rattle.std.proofs.Common.{◌+◌, ◌-◌, ◌/◌, arith}
-use Rattle.native_link.specs.declared.parts.Native.{Native}
-use Rattle.native_link.specs.Fitting.{first_turn}
+use Rattle.image_format.specs.declared.parts.Native.{Native}
+use Rattle.image_format.specs.Fitting.{first_turn}
 use Rattle.native_link.proofs.Lookups.{natives_rise, goes_up, goes_down}
 use Rattle.native_link.proofs.image.place_of_native.Goals as goal
 

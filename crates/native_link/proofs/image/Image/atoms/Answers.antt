@@ -5,4 +5,4 @@ use Rattle.tagged_words.specs.Atoms.{IsTable}
 use Rattle.native_link.proofs.image.Image.atoms.Goals as goal
 
 pub of-requires : goal.of-requires
-of-requires c = subst IsTable (sym c.as_slice.ensures) (linked_is_table (linked c.self.inside.parts c.self.inside.modules) c.self.invariant)
+of-requires c = subst IsTable (sym c.as_slice.ensures) (linked_is_table (linked c.self.inside.parts c.self.inside.checked) c.self.invariant)

@@ -1,5 +1,5 @@
 use Rattle.std.proofs.Common.{◌≡◌, Some, sym, ap, ◌∙◌, arith}
-use Rattle.native_link.specs.Fitting.{first_turn}
+use Rattle.image_format.specs.Fitting.{first_turn}
 use Rattle.native_link.specs.Lookup.{native_of}
 use Rattle.native_link.proofs.Lookups.{first_within}
 use Rattle.native_link.proofs.image.Image.native_entry.Goals as goal

@@ -1,0 +1,5 @@
+pub mod FaultsLaw
+pub mod Endings
+pub mod Course
+pub mod RunCourse
+pub mod StatusLaw

@@ -1,0 +1,11 @@
+pub mod Widths
+pub mod Loop
+pub mod Names
+pub mod Steps
+pub mod Took
+pub mod Fields
+pub mod Masks
+pub mod Items
+pub mod Kept
+pub mod Whole
+pub mod Refused

@@ -1,4 +1,0 @@
-pub mod Found
-pub mod OneOrder
-pub mod Atoms
-pub mod Answering

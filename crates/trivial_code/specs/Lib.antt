@@ -1,0 +1,4 @@
+pub mod Trivial
+pub mod Words
+pub mod Image
+pub mod Compiled
