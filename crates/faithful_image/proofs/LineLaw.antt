@@ -18,17 +18,21 @@ use Rattle.mode_switch.specs.State.{Finish, Loaded, MixedState}
 use Rattle.mode_switch.specs.Text.{end_text, said, value_text}
 use Rattle.image_format.specs.declared.parts.Parts.{Parts}
 use Rattle.small_step.specs.Stage.{Stage, Still, Done, IfDone}
-use Rattle.tagged_words.specs.Store.{IsTreeOf, Store}
+use Rattle.tagged_words.proofs.SeenLaws.{class_shown}
+use Rattle.tagged_words.specs.declared.look.Look.TheVariants as look
+use Rattle.tagged_words.specs.Look.{address_end}
+use Rattle.tagged_words.specs.Seen.{IsTreeOf, seen_size, all_whole}
+use Rattle.tagged_words.specs.Store.{Store}
 use Rattle.tagged_words.specs.Word.{class_of}
 use Rattle.term_tree.specs.Tree as t
 
 -- words and terms that agree have one line
 same_value : (s : Store) (names : List (List ℕ)) (w : ℕ) (v : t.Tree) → IsTreeOf s names w v → value_text (class_of w) ≡ meant_line (b.Returned v)
-same_value s names w (t.Int i) h = ap value_text h
-same_value s names w (t.Atom a) h = ap value_text h.1
-same_value s names w t.Nil h = ap value_text h
-same_value s names w (t.Cons head tail) h = ap value_text h.3
-same_value s names w (t.Tuple ts) h = ap value_text h.1
+same_value s names w (t.Int i) h = ap value_text (class_shown s names address_end w (look.Small i) h)
+same_value s names w (t.Atom a) h = ap value_text (class_shown s names address_end w (look.Atom h.0) h.1)
+same_value s names w t.Nil h = ap value_text (class_shown s names address_end w look.Nil h)
+same_value s names w (t.Cons head tail) h = ap value_text (class_shown s names address_end w (look.Cons h.0) h.3)
+same_value s names w (t.Tuple ts) h = ap value_text (class_shown s names address_end w (look.Tuple h.0 (seen_size (all_whole ts))) h.1)
 
 same_end : (names : List (List ℕ)) (end : End) (meant : b.End) → IsSameEnd names end meant → end_text end ≡ meant_end meant
 same_end names e.Bignum b.Bignum h = refl

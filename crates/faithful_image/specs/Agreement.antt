@@ -8,7 +8,8 @@ use Rattle.mode_switch.specs.declared.outcome.Outcome.TheVariants.{Returned, Rai
 use Rattle.mode_switch.specs.State.{Loaded, MixedState, Finish}
 use Rattle.sparc_code.specs.Step.{register}
 use Rattle.tagged_words.specs.declared.addresses.TheConstants.{HEAP_START}
-use Rattle.tagged_words.specs.Store.{Store, IsTreeOf}
+use Rattle.tagged_words.specs.Seen.{IsTreeOf}
+use Rattle.tagged_words.specs.Store.{Store}
 
 -- the register of the heap top
 abbrev pub heap_top : MixedState → ℕ

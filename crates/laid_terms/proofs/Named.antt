@@ -1,23 +1,11 @@
 -- The atoms of terms are in the table that they were added to.
 use Rattle.std.proofs.Common.{◌≡◌, ℕ, true, List, [], ◌∷◌}
 use Rattle.laid_terms.proofs.Tables.{still_with, there_with}
+use Rattle.laid_terms.specs.Named.{IsNamed, AreNamed}
 use Rattle.std.specs.List.{AllByRecursion}
 use Rattle.tagged_words.specs.Atoms.{is_among}
 use Rattle.tagged_words.specs.Laid.{with_atoms, with_all_atoms, with_atoms_of}
 use Rattle.term_tree.specs.Tree as t
-
--- each atom of a term is in a table
-abbrev mutual
-  pub IsNamed : List (List ℕ) → t.Tree → Type 0
-  IsNamed table (t.Int i) = Unit {0}
-  IsNamed table (t.Atom a) = is_among a table ≡ true
-  IsNamed table t.Nil = Unit {0}
-  IsNamed table (t.Cons head tail) = IsNamed table head × IsNamed table tail
-  IsNamed table (t.Tuple vs) = AreNamed table vs
-
-  pub AreNamed : List (List ℕ) → t.Trees → Type 0
-  AreNamed table t.No = Unit {0}
-  AreNamed table (t.More v vs) = IsNamed table v × AreNamed table vs
 
 -- a table has the names of another one
 abbrev pub Has : List (List ℕ) → List (List ℕ) → Type 0

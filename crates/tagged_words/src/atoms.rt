@@ -154,7 +154,8 @@ impl Atoms {
 
     /// The number of the atom with this name, if there is one.
     pub fn number(&self, name: &Name) -> Option<u32>
-        ensures { result ≡ position (same_name name.now) self.now }
+        ensures number { result ≡ position (same_name name.now) self.now }
+        ensures few { length self.now ≤ MOST_ATOM_NUMBERS }
     {
         match self.names.get_index_of(name) {
             Some(place) => Some(place as u32),

@@ -38,6 +38,15 @@ impl WordBlock {
         Ok(WordBlock { low, words })
     }
 
+    /// The address behind the last word.
+    pub fn end(&self) -> u32
+        ensures is { result ≡ self.now.start + 4 * length self.now.words }
+        ensures aligned { self.now.start % 4 ≡ 0 }
+        ensures within { result ≤ 2 ^ 31 }
+    {
+        self.low + 4 * self.words.len() as u32
+    }
+
     /// The word at `addr`, or none for an address that is no multiple of 4 or outside of the block.
     pub fn get(&self, addr: u32) -> Option<u32>
         ensures { result ≡ word_at self.now addr }

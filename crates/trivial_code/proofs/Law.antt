@@ -49,7 +49,9 @@ use Rattle.small_step.specs.Stage.{Stage, Still, Done, IfDone, IfStill, run}
 use Rattle.tagged_words.proofs.WordLaws.{class_of-small_word}
 use Rattle.tagged_words.specs.declared.addresses.TheConstants.{HEAP_START}
 use Rattle.tagged_words.specs.Laid.{laid_in_turn, words_in_turn, with_atoms_of}
-use Rattle.tagged_words.specs.Store.{Store, IsTreeOf}
+use Rattle.tagged_words.specs.Look.{look_in, address_end}
+use Rattle.tagged_words.specs.Seen.{IsTreeOf}
+use Rattle.tagged_words.specs.Store.{Store}
 use Rattle.term_tree.specs.IsTerm.{IsTerm}
 use Rattle.term_tree.specs.Size.{words_of_all}
 use Rattle.term_tree.specs.Tree as t
@@ -293,7 +295,7 @@ heap_has laid rest n e j w is = ap (λ (ws : List ℕ). slice_get ws j) (take_at
 
 stands_by : (given : Given) (names : List (List ℕ)) (args : List t.Tree) (s : Store) (v : t.Tree) → FitsWord given → held given (came_with args) ≡ Some v → AllByRecursion IsTerm args → words_of_all (t.trees_of args) ≤ most_laid
     → IsBegun (laid_in_turn (with_atoms_of names args) HEAP_START args) s.heap → IsTreeOf s (with_atoms_of names args) (word_given given (slice_index (words_in_turn (with_atoms_of names args) HEAP_START args) 0)) v
-stands_by (Integer n) names args s v fits e terms few begins = let same : t.Int n ≡ v = cc in subst (λ x. IsTreeOf s (with_atoms_of names args) (word_given (Integer n) 0) x) same (class_of-small_word n fits)
+stands_by (Integer n) names args s v fits e terms few begins = let same : t.Int n ≡ v = cc in subst (λ x. IsTreeOf s (with_atoms_of names args) (word_given (Integer n) 0) x) same (ap (look_in s (with_atoms_of names args) address_end) (class_of-small_word n fits))
 stands_by Came names [] s v fits e terms few begins = absurd cc
 stands_by Came names (a ∷ args) s v fits e terms few begins =
     let same : a ≡ v = cc in
