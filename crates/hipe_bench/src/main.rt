@@ -5,6 +5,7 @@
 mod blocks;
 mod checking;
 mod images;
+mod lists;
 mod memory;
 mod reading;
 mod steps;
@@ -71,6 +72,9 @@ fn measured<F: Files>(alloc: Global, files: &mut F, words: &[String]) -> Result<
                 number(words, 3)?,
             )
         }
+        "words_of_terms" => {
+            lists::lists_walked(alloc, word(words, 1)?, number(words, 2)?, number(words, 3)?)
+        }
         _ => bail!("no measure has this name"),
     }
 }
@@ -97,5 +101,14 @@ fn all<F: Files>(alloc: Global, files: &mut F) -> Result<String> {
     add(&mut lines, images::steps_run(alloc, 4543))?;
     add(&mut lines, steps::steps_done(alloc, 100_000))?;
     add(&mut lines, blocks::words_moved(alloc, 1024, 2000, 1000))?;
+    add_lists(alloc, &mut lines)?;
     Ok(lines)
+}
+
+/// The measures of lists.
+fn add_lists(alloc: Global, lines: &mut String) -> Result<()> {
+    for measure in ["lay", "compare", "compare_same", "print"] {
+        add(lines, lists::lists_walked(alloc, measure, 1000, 2))?;
+    }
+    Ok(())
 }

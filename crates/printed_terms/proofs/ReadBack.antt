@@ -1,5 +1,5 @@
 -- What a term prints is read as that term.
-use Rattle.std.proofs.Common.{◌≡◌, ℕ, suc, ◌≤◌, true, [], ◌∷◌, ◌++◌, Ok, refl, sym, ap, ◌∙◌, subst, arith, append-nil}
+use Rattle.std.proofs.Common.{◌≡◌, ℕ, suc, ◌≤◌, Bool, true, false, if◌then◌else◌, nat_lt, List, [], ◌∷◌, ◌++◌, Ok, refl, sym, ap, ◌∙◌, subst, arith, append-nil}
 use lib.Chars.{codes}
 use Rattle.term_tree.specs.declared.term.Term.{Term}
 use Rattle.term_tree.specs.Term.{tree_of, is_canonical}
@@ -16,6 +16,10 @@ use Rattle.printed_terms.specs.Printable.{has_names, depth_of}
 use Rattle.printed_terms.proofs.Lexing.{stops_dot, dot_token, open_list, close_list}
 use Rattle.printed_terms.proofs.Allowed.{list_allows}
 use Rattle.printed_terms.proofs.Written.{brackets_read, written}
+use Rattle.tagged_words.specs.Seen.{whole}
+use Rattle.word_walks.proofs.WholeTexts.{whole_terms_are_spelt}
+use Rattle.word_walks.specs.Nodes.{nodes_of}
+use Rattle.word_walks.specs.Spelt.{Large, Text, spelt}
 
 pub in_brackets : (x : Term) → is_canonical x ≡ true → has_names x ≡ true → depth_of x ≤ 199 → arguments (codes "[" ++ text_of (tree_of x) ++ codes "]") ≡ Ok (x ∷ [])
 in_brackets x c n d =
@@ -45,3 +49,13 @@ one_text x y c e n m d f same =
     let forms : Ok (form_of 1 x ∷ []) ≡ Ok (form_of 1 y ∷ []) = sym (before_dot x c n d) ∙ ap (λ text. reading (text ++ codes ".")) same ∙ before_dot y e m f in
     let first : form_of 1 x ≡ form_of 1 y = cc in
     ap (λ form. form.term) first
+
+-- what is printed of a word that stands for such a term
+spelt_read : (x : Term) (large : Bool) (nodes n : ℕ) (text : List ℕ) → (if large then Large else Text (text_of (tree_of x)) n) ≡ Text text nodes → text_of (tree_of x) ≡ text
+spelt_read x true nodes n text e = absurd cc
+spelt_read x false nodes n text e = cc
+
+pub word_read : (x : Term) (budget nodes : ℕ) (text : List ℕ) → is_canonical x ≡ true → has_names x ≡ true → depth_of x ≤ 199 → spelt budget (whole (tree_of x)) ≡ Text text nodes → arguments (codes "[" ++ text ++ codes "]") ≡ Ok (x ∷ [])
+word_read x budget nodes text c n d e =
+    let same = spelt_read x (nat_lt budget (nodes_of (tree_of x))) nodes (nodes_of (tree_of x)) text (sym (whole_terms_are_spelt budget (tree_of x)) ∙ e) in
+    subst (λ bytes. arguments (codes "[" ++ bytes ++ codes "]") ≡ Ok (x ∷ [])) same (in_brackets x c n d)

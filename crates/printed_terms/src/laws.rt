@@ -1,11 +1,13 @@
-ghost use Rattle.std.specs.Prelude.{◌≡◌, ◌-◌, ◌++◌, ◌∷◌, [], Ok, codes};
+ghost use Rattle.std.specs.Prelude.{◌≡◌, ℕ, List, ◌-◌, ◌++◌, ◌∷◌, [], Ok, codes};
 ghost use Rattle.asm_text.specs.Reading.{arguments, reading};
 ghost use Rattle.text_forms.specs.Places.{most_open};
 ghost use Rattle.text_forms.specs.declared.form.Form.{Form};
 ghost use Rattle.printed_terms.specs.Printable.{IsPrintable};
 ghost use Rattle.term_tree.specs.Term.{tree_of};
+ghost use Rattle.tagged_words.specs.Seen.{whole};
 ghost use Rattle.term_tree.specs.Text.{text_of};
 ghost use Rattle.term_tree.specs.declared.term.Term as term;
+ghost use Rattle.word_walks.specs.Spelt.{Text, spelt};
 
 /// What a canonical term prints is read as that term, where its atoms are names and its brackets
 /// nest no deeper than may be read: in the brackets of arguments as the one argument, and before a
@@ -18,4 +20,9 @@ pub fn printed_is_read()
 /// Two such terms with one text are one term.
 pub fn no_two_terms_print_alike()
     ensures { (x y : term.Term) → IsPrintable most_open x → IsPrintable most_open y → text_of (tree_of x) ≡ text_of (tree_of y) → x ≡ y }
+{}
+
+/// What is printed of a word that stands for such a term is read as that term, where the budget has its nodes.
+pub fn printed_words_are_read()
+    ensures { (x : term.Term) (budget nodes : ℕ) (text : List ℕ) → IsPrintable (most_open - 1) x → spelt budget (whole (tree_of x)) ≡ Text text nodes → arguments (codes "[" ++ text ++ codes "]") ≡ Ok (x ∷ []) }
 {}

@@ -3,4 +3,4 @@
 
 mod laws;
 
-pub use laws::{no_two_terms_print_alike, printed_is_read};
+pub use laws::{no_two_terms_print_alike, printed_is_read, printed_words_are_read};

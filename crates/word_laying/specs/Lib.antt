@@ -1,0 +1,4 @@
+pub mod Count
+pub mod Written
+pub mod Laying
+pub mod Laws

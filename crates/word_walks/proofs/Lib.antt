@@ -1,0 +1,15 @@
+pub mod Ordinals
+pub mod Walked
+pub mod Waiting
+pub mod Visits
+pub mod Cells
+pub mod Fits
+pub mod Ends
+pub mod WholeTexts
+pub mod Meetings
+pub mod PairsAhead
+pub mod Descents
+pub mod Walking
+pub mod Comparison
+pub mod WholeTerms
+pub mod Keeping
