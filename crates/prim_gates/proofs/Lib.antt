@@ -1,0 +1,16 @@
+pub mod Below
+pub mod Pushed
+pub mod Each
+pub mod Cells
+pub mod Walks
+pub mod Plain
+pub mod Saying
+pub mod Rows
+pub mod Table
+pub mod Shifts
+pub mod Blanks
+pub mod Seeing
+pub mod ListWalks
+pub mod Members
+pub mod Chains
+pub mod Kept

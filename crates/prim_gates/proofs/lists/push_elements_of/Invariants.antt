@@ -1,0 +1,12 @@
+use Rattle.prim_gates.proofs.Chains.{IsWriting}
+use Rattle.prim_gates.specs.Chain.{heads_by, IsChain}
+use Rattle.prim_gates.proofs.lists.push_elements_of.Given as goal
+
+abbrev pub invariant-cells : goal.invariant-cells
+invariant-cells g l = record {
+  writing : IsWriting (g.H.Words.store l.initial.heap) (heads_by (g.H.Words.store l.initial.heap) l.list l.count) (g.H.Words.store l.heap) (g.H.HeapWords.room l.heap) (heads_by (g.H.Words.store l.initial.heap) l.word l.left);
+  chain : IsChain (g.H.Words.store l.initial.heap) l.word l.left;
+}
+
+abbrev pub decreases-cells : goal.decreases-cells
+decreases-cells g l = l.left
