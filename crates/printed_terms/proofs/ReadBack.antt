@@ -59,3 +59,8 @@ pub word_read : (x : Term) (budget nodes : ℕ) (text : List ℕ) → is_canonic
 word_read x budget nodes text c n d e =
     let same = spelt_read x (nat_lt budget (nodes_of (tree_of x))) nodes (nodes_of (tree_of x)) text (sym (whole_terms_are_spelt budget (tree_of x)) ∙ e) in
     subst (λ bytes. arguments (codes "[" ++ bytes ++ codes "]") ≡ Ok (x ∷ [])) same (in_brackets x c n d)
+
+pub word_form : (x : Term) (budget nodes : ℕ) (text : List ℕ) → is_canonical x ≡ true → has_names x ≡ true → depth_of x ≤ 200 → spelt budget (whole (tree_of x)) ≡ Text text nodes → reading (text ++ codes ".") ≡ Ok (form_of 1 x ∷ [])
+word_form x budget nodes text c n d e =
+    let same = spelt_read x (nat_lt budget (nodes_of (tree_of x))) nodes (nodes_of (tree_of x)) text (sym (whole_terms_are_spelt budget (tree_of x)) ∙ e) in
+    subst (λ bytes. reading (bytes ++ codes ".") ≡ Ok (form_of 1 x ∷ [])) same (before_dot x c n d)

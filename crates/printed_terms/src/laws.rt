@@ -22,7 +22,9 @@ pub fn no_two_terms_print_alike()
     ensures { (x y : term.Term) → IsPrintable most_open x → IsPrintable most_open y → text_of (tree_of x) ≡ text_of (tree_of y) → x ≡ y }
 {}
 
-/// What is printed of a word that stands for such a term is read as that term, where the budget has its nodes.
+/// What is printed of a word that stands for such a term is read as that term, where the budget has its nodes: as the
+/// one argument and as the one form.
 pub fn printed_words_are_read()
-    ensures { (x : term.Term) (budget nodes : ℕ) (text : List ℕ) → IsPrintable (most_open - 1) x → spelt budget (whole (tree_of x)) ≡ Text text nodes → arguments (codes "[" ++ text ++ codes "]") ≡ Ok (x ∷ []) }
+    ensures argument { (x : term.Term) (budget nodes : ℕ) (text : List ℕ) → IsPrintable (most_open - 1) x → spelt budget (whole (tree_of x)) ≡ Text text nodes → arguments (codes "[" ++ text ++ codes "]") ≡ Ok (x ∷ []) }
+    ensures form { (x : term.Term) (budget nodes : ℕ) (text : List ℕ) → IsPrintable most_open x → spelt budget (whole (tree_of x)) ≡ Text text nodes → let one : Form = record { line = 1; term = x } in reading (text ++ codes ".") ≡ Ok (one ∷ []) }
 {}

@@ -48,6 +48,24 @@ fn a_chain_is_gone_along(rt: HostRuntime) -> Result<(), Fail> {
     Ok(())
 }
 
+/// How many bytes a text has, and how many nodes, where it is whole.
+fn bytes_and_nodes(text: &WordText) -> Option<(usize, u32)> {
+    match text {
+        WordText::Text { text, nodes } => Some((text.len(), *nodes)),
+        _ => None,
+    }
+}
+
+#[test]
+fn a_chain_is_printed_whole(rt: HostRuntime) -> Result<(), Fail> {
+    let atoms = atoms(rt.alloc())?;
+    let words = chain(rt.alloc(), 0x1F)?;
+    let (order, text) = walked(rt.alloc(), &words, &atoms, u32::MAX)?;
+    assert_eq!(rt; order, Ok(Ordering::Equal));
+    assert_eq!(rt; bytes_and_nodes(&text), Some((16_777_217, 8_388_609)));
+    Ok(())
+}
+
 #[test]
 fn a_chain_is_refused_at_its_bottom(rt: HostRuntime) -> Result<(), Fail> {
     let atoms = atoms(rt.alloc())?;
