@@ -6,7 +6,7 @@ use Rattle.tagged_words.specs.declared.look.Look.TheVariants as look
 use Rattle.term_tree.specs.Tree.{Tree, Trees, Int, Atom, Nil, Cons, Tuple, No, More}
 use Rattle.std.specs.declared.cmp.Ordering.{Ordering}
 use Rattle.tagged_words.specs.Seen.{Seen}
-use Rattle.prim_gates.specs.Gate.{Shape, Order, shapes}
+use Rattle.prim_gates.specs.Gate.{Shape, Order, Either, shapes}
 use Rattle.prim_gates.specs.Reply.{Reply, Argument, Bignum, valued}
 
 abbrev pub by_row : Option BuiltIn → List Tree → Reply
@@ -57,3 +57,11 @@ ordered k o = test_of (slice_get shapes k) o
 abbrev pub is_bad : Look → Bool
 is_bad look.Bad = true
 is_bad l = false
+
+-- whether the second of two terms is taken, by their order
+abbrev pub taken_of : Option Shape → Ordering → Bool
+taken_of (Some (Either second)) o = second o
+taken_of shape o = false
+
+abbrev pub second_taken : ℕ → Ordering → Bool
+second_taken k o = taken_of (slice_get shapes k) o

@@ -16,6 +16,6 @@ pub use integers::on_two;
 pub use laws::built_ins_answer_as_on_terms;
 pub use lists::{append, list_length, list_to_tuple, member, reverse};
 pub use looking::one_term;
-pub use orders::{holds, of_order};
+pub use orders::{holds, of_either, of_order};
 pub use shallow::{of_one, of_truths, truth};
 pub use tuples::{element, part, set_element, tuple_to_list};

@@ -2,8 +2,8 @@
 ghost use Rattle.std.specs.Prelude.{◌≡◌, ◌<◌, ◌≤◌, length};
 ghost use Rattle.prim_gates.specs.Reply as replies;
 ghost use Rattle.prim_gates.specs.Said.{said};
-ghost use Rattle.prim_gates.specs.Shallow.{ordered};
-ghost use Rattle.prim_gates.specs.Shapes.{on_order};
+ghost use Rattle.prim_gates.specs.Shallow.{argument, ordered, second_taken};
+ghost use Rattle.prim_gates.specs.Shapes.{of_either, on_order};
 ghost use Rattle.tagged_words.specs.Look.{address_end};
 ghost use Rattle.tagged_words.specs.Seen.{Seen, Sees};
 ghost use Rattle.tagged_words.specs.Store.{words_in};
@@ -50,6 +50,45 @@ pub fn of_order<W: Words>(
 {
     match compare_words(words, atoms, a, b, scratch) {
         Ok(order) => says(holds(k, order)),
+        Err(bad) => PrimAnswer::Fault { word: bad.word },
+    }
+}
+
+/// Whether the second of two terms is taken, by their order: of the built-ins with the numbers 37 and 38.
+fn takes_second(k: u32, order: Ordering) -> bool
+    requires low { 37 ≤ k }
+    requires high { k ≤ 38 }
+    ensures { result ≡ second_taken k order }
+{
+    match k {
+        37 => matches!(order, Ordering::Greater),
+        _ => matches!(order, Ordering::Less),
+    }
+}
+
+/// The least of two terms, or the greatest: those with the numbers 37 and 38. Of equal ones it is the first.
+pub fn of_either<W: Words>(
+    k: u32,
+    words: &W,
+    atoms: &Atoms,
+    a: u32,
+    b: u32,
+    scratch: &mut Scratch,
+) -> PrimAnswer
+    requires low { 37 ≤ k }
+    requires high { k ≤ 38 }
+    requires room { words_in (W.store words.now) < length scratch.old }
+    ensures answer { (x y : Seen) → Sees (W.store words.now) atoms.now address_end a x → Sees (W.store words.now) atoms.now address_end b y → said result ≡ of_either (second_taken k) (argument a x) (argument b y) }
+    ensures same { length scratch.new ≡ length scratch.old }
+{
+    match compare_words(words, atoms, a, b, scratch) {
+        Ok(order) => {
+            if takes_second(k, order) {
+                PrimAnswer::Value(b)
+            } else {
+                PrimAnswer::Value(a)
+            }
+        }
         Err(bad) => PrimAnswer::Fault { word: bad.word },
     }
 }
