@@ -106,12 +106,15 @@ impl Words for HandWords {
 impl HeapWords for HandWords {
     ghost use Rattle.std.proofs.Common.{arith};
     ghost use Rattle.std.proofs.lemmas.List.{length-take};
-    ghost use Rattle.std.specs.Prelude.{◌+◌, ◌-◌, ◌*◌, length};
+    ghost use Rattle.std.specs.Prelude.{◌≡◌, ◌+◌, ◌-◌, ◌*◌, length};
+    ghost use Rattle.tagged_words.specs.Region.{with_word};
     ghost use Rattle.tagged_words.specs.declared.addresses.TheConstants.{HEAP_START};
 
     ghost room = { λ m. length m.heap.words - m.used };
 
     ghost end = { λ m. HEAP_START + 4 * m.used };
+
+    ghost Grows = { λ m w n. (n.literals ≡ m.literals) × (n.heap ≡ with_word m.heap (HEAP_START + 4 * m.used) w) × (n.used ≡ m.used + 1) };
 
     fn top(&self) -> u32 {
         HEAP_START + 4 * self.used

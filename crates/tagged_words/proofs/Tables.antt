@@ -1,6 +1,11 @@
 -- Tables of names, no two of which are the same.
 use Rattle.std.proofs.Common.{◌≡◌, lit≤, ℕ, zero, suc, ◌+◌, ◌<◌, ◌≤◌, Bool, true, false, List, [], ◌∷◌, ◌++◌, length, get_or, take, refl, sym, ap, subst, ◌∙◌, append_assoc, arith, length-append, if◌then◌else◌}
-use Rattle.std.specs.Prelude.{◌&&◌, ◌==◌}
+use Rattle.std.specs.Prelude.{◌&&◌, ◌||◌, ◌==◌, false, Some, unwrap_or, slice_get, position, nat_lt}
+use Rattle.std.specs.List.{position_or_len}
+use Rattle.std.proofs.lemmas.Option.{slice_get_within, get_or_from_slice_get}
+use Rattle.std.proofs.lemmas.Cmp.{nat_list_eq_equiv}
+use Rattle.std.proofs.lemmas.Bool.Decides.{nat_tests}
+use Rattle.term_tree.specs.Name.{same_name}
 use Rattle.std.specs.Cmp.Lexicographic.{pointwise}
 use Rattle.std.proofs.lemmas.List.{append-nil, take_more}
 use Rattle.indexmap.specs.IndexSet.{insert_key}
@@ -24,6 +29,29 @@ pub one_more_key : (xs keys after : List (List ℕ)) (i : ℕ) (x : List ℕ) �
 one_more_key xs keys after i x h lt e so_far inserted =
     let new : is_among x (take i xs) ≡ false = subst (λ y. is_among y (take i xs) ≡ false) (sym e) (new_after [] xs i x h lt) in
     inserted ∙ ap (λ k. insert_key (pointwise ◌==◌) k x) so_far ∙ insert_new (take i xs) x new ∙ ap (λ y. take i xs ++ y ∷ []) e ∙ sym (take_more xs i x lt)
+
+-- ---- the number of a name
+
+neither : (b c : Bool) → b || c ≡ false → (b ≡ false) × (c ≡ false)
+neither false c h = (refl, h)
+neither true c h = absurd cc
+
+first_place : (xs : List (List ℕ)) (n : ℕ) (a : List ℕ) → is_among a (take n xs) ≡ false → slice_get xs n ≡ Some a → position_or_len (same_name a) xs ≡ n
+first_place [] n a new at = absurd cc
+first_place (x ∷ xs) zero a new at = rw (subst (λ y. same_name a y ≡ true) (sym (ap (λ o. unwrap_or o a) at)) (nat_list_eq_equiv.refl a)) refl
+first_place (x ∷ xs) (suc n) a new at =
+    let other : same_name a x ≡ false = (neither (same_name a x) (is_among a (take n xs)) new).0 in
+    let later : position_or_len (same_name a) xs ≡ n = first_place xs n a (neither (same_name a x) (is_among a (take n xs)) new).1 at in
+    rw other (omega (arith, later))
+
+pub number_of_name : (names : List (List ℕ)) (n : ℕ) (a : List ℕ) → IsTable names → slice_get names n ≡ Some a → position (same_name a) names ≡ Some n
+number_of_name names n a t at =
+    let low = slice_get_within names n a at in
+    let here : get_or names n a ≡ a = get_or_from_slice_get names n a a at in
+    let new : is_among a (take n names) ≡ false = subst (λ b. is_among b (take n names) ≡ false) here (new_after [] names n a t.distinct low) in
+    let place = first_place names n a new at in
+    let inside : nat_lt (position_or_len (same_name a) names) (length names) ≡ true = grind (arith, nat_tests, place, low) in
+    rw inside (ap Some place)
 
 -- ---- a table with a name more
 

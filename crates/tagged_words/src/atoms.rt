@@ -140,7 +140,8 @@ impl Atoms {
 
     /// How many atoms there are.
     pub fn len(&self) -> u32
-        ensures { result ≡ length self.now }
+        ensures length { result ≡ length self.now }
+        ensures table { IsTable self.now }
     {
         self.names.len() as u32
     }

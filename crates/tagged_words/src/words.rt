@@ -22,8 +22,9 @@ pub trait Words {
 
 /// Words whose heap grows at its top, one word at a time.
 ///
-/// `room` is how many words can be pushed still, at most 16,777,216; `at` the address where the next one goes, which is
-/// the end of the heap wherever there is room.
+/// `room` is how many words can be pushed still, at most 16,777,216; `end` the address where the next one goes, which is
+/// the end of the heap wherever there is room. `Grows` tells all that there is once a word was pushed, what lies beside
+/// the store included.
 pub trait HeapWords: Words {
     ghost use Rattle.std.specs.Prelude.{ℕ, ◌≡◌, ◌+◌, ◌-◌, ◌*◌, ◌^◌, ◌<◌, ◌≤◌, Bool, true, false, IsTrue, nat_lt, length};
     ghost use Rattle.tagged_words.specs.declared.addresses.TheConstants.{HEAP_START};
@@ -31,6 +32,8 @@ pub trait HeapWords: Words {
     ghost room: { Self → ℕ };
 
     ghost end: { Self → ℕ };
+
+    ghost Grows: { Self → ℕ → Self → Type 0 };
 
     /// The address of the word that is pushed next.
     fn top(&self) -> u32
@@ -44,6 +47,7 @@ pub trait HeapWords: Words {
     fn push(&mut self, w: u32) -> bool
         ensures done { result ≡ nat_lt 0 (room self.old) }
         ensures full { result ≡ false → self.new ≡ self.old }
+        ensures grows { result ≡ true → Grows self.old w self.new }
         ensures words { result ≡ true → Self.store self.new ≡ with_pushed (Self.store self.old) w }
         ensures top { result ≡ true → end self.new ≡ end self.old + 4 }
         ensures left { result ≡ true → room self.new + 1 ≡ room self.old };
