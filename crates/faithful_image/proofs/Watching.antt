@@ -10,7 +10,7 @@ use Rattle.mode_switch.specs.declared.outcome.End.TheVariants as e
 use Rattle.mode_switch.specs.declared.outcome.FaultKind.TheVariants.{Fetch}
 use Rattle.mode_switch.specs.declared.outcome.Outcome.{Outcome}
 use Rattle.mode_switch.specs.declared.outcome.Outcome.TheVariants.{Ended}
-use Rattle.mode_switch.specs.declared.addresses.TheConstants.{ITEM_START}
+use Rattle.image_format.specs.declared.limits.TheConstants.{ITEM_START}
 use Rattle.mode_switch.specs.Destination.{item_address, first_item, within}
 use Rattle.mode_switch.specs.Run.{full_step}
 use Rattle.mode_switch.specs.State.{Loaded, MixedState, Finish}

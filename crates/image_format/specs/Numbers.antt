@@ -2,7 +2,7 @@
 use Rattle.std.specs.Prelude.{◌≡◌}
 use Rattle.term_tree.specs.declared.name.TheConstants.{MOST_CHARACTERS}
 use Rattle.beam_code.specs.declared.module.TheConstants.{MOST_TEXT_BYTES}
-use Rattle.image_format.specs.declared.limits.TheConstants.{MAGIC, VERSION, MOST_MODULES, MOST_ATOMS, MOST_LITERALS, MOST_NATIVES, MOST_CODE, MOST_DESCRIPTORS, MOST_FRAME, MOST_IMAGE_BYTES, CODE_START}
+use Rattle.image_format.specs.declared.limits.TheConstants.{MAGIC, VERSION, MOST_MODULES, MOST_ATOMS, MOST_LITERALS, MOST_NATIVES, MOST_CODE, MOST_DESCRIPTORS, MOST_FRAME, MOST_IMAGE_BYTES, ITEM_START, CODE_START}
 
 pub record TheNumbersAre : Type 0 where
   pub magic : MAGIC ≡ 0x48495045
@@ -18,4 +18,5 @@ pub record TheNumbersAre : Type 0 where
   pub frame : MOST_FRAME ≡ 513
   pub characters : MOST_CHARACTERS ≡ 255
   pub image_bytes : MOST_IMAGE_BYTES ≡ 536870912
+  pub item_start : ITEM_START ≡ 0x02000000
   pub code_start : CODE_START ≡ 0x04000000

@@ -20,5 +20,7 @@ pub const MOST_DESCRIPTORS: u32 = 1_048_576;
 pub const MOST_FRAME: u32 = 513;
 /// The most bytes of an image that is read.
 pub const MOST_IMAGE_BYTES: usize = 536_870_912;
+/// The address of the first item of all functions: an address an item, four bytes apart.
+pub const ITEM_START: u32 = 0x0200_0000;
 /// The address of the first code word of an image.
 pub const CODE_START: u32 = 0x0400_0000;

@@ -4,11 +4,11 @@ use Rattle.std.proofs.lemmas.Bool.Decides.{nat_tests}
 use Rattle.std.proofs.lemmas.Option.{slice_get_within}
 use Rattle.beam_code.specs.Function.{items_of}
 use Rattle.mode_switch.specs.Junk.{junked}
-use Rattle.mode_switch.specs.declared.addresses.TheConstants.{GATE_START, GATES, ITEM_START}
+use Rattle.mode_switch.specs.declared.addresses.TheConstants.{GATE_START, GATES}
 use Rattle.mode_switch.specs.declared.destination.Destination.TheVariants.{Word}
 use Rattle.mode_switch.specs.Memory.{load_of, stores_of}
 use Rattle.mode_switch.specs.Destination.{within, destination_of}
-use Rattle.image_format.specs.declared.limits.TheConstants.{CODE_START}
+use Rattle.image_format.specs.declared.limits.TheConstants.{CODE_START, ITEM_START}
 use Rattle.mode_switch.specs.Run.{full_step}
 use Rattle.mode_switch.specs.State.{Loaded, MixedState}
 use Rattle.mode_switch.specs.Step.{mixed_step, step_at, native_step, native_after}

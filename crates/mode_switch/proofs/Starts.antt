@@ -11,7 +11,8 @@ use Rattle.image_format.specs.declared.parts.Native.{Native}
 use Rattle.image_format.specs.declared.parts.Parts.{Parts}
 use Rattle.module_check.specs.Checks.{first_of}
 use Rattle.mode_switch.specs.Call.{call_of}
-use Rattle.mode_switch.specs.declared.addresses.TheConstants.{ITEM_START, MOST_REDUCTIONS}
+use Rattle.image_format.specs.declared.limits.TheConstants.{ITEM_START}
+use Rattle.mode_switch.specs.declared.addresses.TheConstants.{MOST_REDUCTIONS}
 use Rattle.mode_switch.specs.declared.machine.OpenRefusal.{OpenRefusal}
 use Rattle.mode_switch.specs.declared.machine.OpenRefusal.TheVariants as refusal
 use Rattle.mode_switch.specs.declared.opening.Start.{Start}

@@ -3,10 +3,10 @@ use Rattle.std.specs.Prelude.{ℕ, ◌+◌, ◌-◌, ◌*◌, ◌/◌, ◌%◌, 
 use Rattle.beam_code.specs.declared.gates.TheConstants.{BUILT_INS, FIRST_RAISER, GATE_BADARG, GATE_BUILT_INS, GATE_GUARDS, LAST_RAISER}
 use Rattle.beam_code.specs.declared.module.Module.{Module}
 use Rattle.beam_code.specs.Function.{Placed, function_at, all_functions, items_in}
-use Rattle.mode_switch.specs.declared.addresses.TheConstants.{GATE_START, GATES, ITEM_START}
+use Rattle.mode_switch.specs.declared.addresses.TheConstants.{GATE_START, GATES}
 use Rattle.mode_switch.specs.declared.destination.Destination.{Destination}
 use Rattle.mode_switch.specs.declared.destination.Destination.TheVariants.{Gate, Item, Word, Nowhere}
-use Rattle.image_format.specs.declared.limits.TheConstants.{CODE_START}
+use Rattle.image_format.specs.declared.limits.TheConstants.{CODE_START, ITEM_START}
 use Rattle.image_format.specs.declared.parts.Native.{Native}
 use Rattle.native_link.specs.Lookup.{native_entry_of}
 

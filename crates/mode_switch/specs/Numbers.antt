@@ -3,9 +3,9 @@ use Rattle.std.specs.Prelude.{◌≡◌, ◌+◌, ◌-◌, ◌*◌, Bool, true, 
 use Rattle.beam_code.specs.declared.gates.TheConstants.{BUILT_INS, FIRST_RAISER, LAST_RAISER}
 use Rattle.beam_code.specs.BuiltIns.{BuiltIn, First, built_ins}
 use Rattle.beam_code.specs.State.{x_registers}
-use Rattle.mode_switch.specs.declared.addresses.TheConstants.{GATE_START, GATES, ITEM_START, X_START, X_WORDS, STACK_FLOOR, STACK_END, STOP_LINK, MOST_ITEMS, MOST_REDUCTIONS, MOST_WORDS}
+use Rattle.mode_switch.specs.declared.addresses.TheConstants.{GATE_START, GATES, X_START, X_WORDS, STACK_FLOOR, STACK_END, STOP_LINK, MOST_ITEMS, MOST_REDUCTIONS, MOST_WORDS}
 use Rattle.mode_switch.specs.declared.text.TheConstants.{VALUE_STATUS, END_STATUS, NOT_BUILT_STATUS}
-use Rattle.image_format.specs.declared.limits.TheConstants.{CODE_START}
+use Rattle.image_format.specs.declared.limits.TheConstants.{CODE_START, ITEM_START}
 use Rattle.tagged_words.specs.declared.addresses.TheConstants.{LITERAL_START, HEAP_START, MOST_ATOM_NUMBERS}
 
 abbrev pub only_raises : BuiltIn → Bool

@@ -4,8 +4,6 @@
 pub const GATE_START: u32 = 0x0100_0000;
 /// How many gates have an address.
 pub const GATES: u32 = 256;
-/// The address of the first emulated item.
-pub const ITEM_START: u32 = 0x0200_0000;
 /// The address of the x area: no heap reaches it.
 pub const X_START: u32 = 0x2000_0000;
 /// How many words the x area has.

@@ -3,9 +3,9 @@
 ghost use Rattle.mode_switch.specs.Destination.{destination_of, within, is_gate as is_gate_number, is_raiser as is_raiser_number};
 ghost use Rattle.std.specs.Prelude.{◌≡◌};
 
-use crate::addresses::{GATE_START, GATES, ITEM_START};
+use crate::addresses::{GATE_START, GATES};
 use beam_code::{BUILT_INS, FIRST_RAISER, GATE_BADARG, GATE_BUILT_INS, GATE_GUARDS, LAST_RAISER};
-use image_format::CODE_START;
+use image_format::{CODE_START, ITEM_START};
 
 /// Where an address leads: to a gate, an item or a code word, each by its number, or to none.
 #[derive(Clone, Copy, PartialEq, Eq, Debug)]

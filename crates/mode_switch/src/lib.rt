@@ -13,8 +13,8 @@ mod outcome;
 mod text;
 
 pub use addresses::{
-    GATE_START, GATES, ITEM_START, MOST_ITEMS, MOST_REDUCTIONS, MOST_WORDS, STACK_END, STACK_FLOOR,
-    STOP_LINK, X_START, X_WORDS,
+    GATE_START, GATES, MOST_ITEMS, MOST_REDUCTIONS, MOST_WORDS, STACK_END, STACK_FLOOR, STOP_LINK,
+    X_START, X_WORDS,
 };
 pub use beam_code::{Limits, RaiseClass};
 pub use machine::{Call, Machine, OpenRefusal};

@@ -8,12 +8,12 @@ ghost use Rattle.mode_switch.specs.Opening.{IsLow, Starts, opening};
 ghost use Rattle.image_format.specs.Fitting.{IsFitting};
 ghost use Rattle.std.specs.Prelude.{◌≡◌, ◌+◌, ◌<◌, ◌^◌, length, IfOk};
 
-use crate::addresses::ITEM_START;
 use crate::hardware::Hardware;
 use crate::lookup::items_of_modules;
 use crate::machine::{Call, OpenRefusal};
 use beam_check::Checked;
 use beam_code::Limits;
+use image_format::ITEM_START;
 use native_link::Image;
 use std::alloc::{AllocError, Global};
 use tagged_words::Atoms;

@@ -31,7 +31,7 @@ use Rattle.laid_terms.proofs.Standing.{laid_terms_stand, length-laid_in_turn}
 use Rattle.laid_terms.specs.Laid.{Begins as IsBegun, most_laid}
 use Rattle.mode_switch.proofs.Places.{full_step-plain}
 use Rattle.mode_switch.specs.Call.{Call, IsCallOf, IsInRange, loaded, run_of, start}
-use Rattle.mode_switch.specs.declared.addresses.TheConstants.{GATE_START, ITEM_START, STACK_END, STOP_LINK}
+use Rattle.mode_switch.specs.declared.addresses.TheConstants.{GATE_START, STACK_END, STOP_LINK}
 use Rattle.mode_switch.specs.declared.outcome.End.TheVariants as e
 use Rattle.mode_switch.specs.declared.outcome.Outcome.{Outcome}
 use Rattle.mode_switch.specs.declared.outcome.Outcome.TheVariants.{Returned, Ended}
@@ -40,7 +40,7 @@ use Rattle.mode_switch.specs.Destination.{entry_address, item_entry}
 use Rattle.mode_switch.specs.Run.{full_step, bound, first_state as machine_state}
 use Rattle.mode_switch.specs.State.{Loaded, MixedState, Finish}
 use Rattle.mode_switch.specs.Step.{mixed_step}
-use Rattle.image_format.specs.declared.limits.TheConstants.{CODE_START}
+use Rattle.image_format.specs.declared.limits.TheConstants.{CODE_START, ITEM_START}
 use Rattle.image_format.specs.declared.parts.Parts.{Parts}
 use Rattle.native_link.specs.Lookup.{entry_address as native_address}
 use Rattle.small_step.proofs.Following.{Stretch, Ends, Agrees as Followed, ends, ends_in_time}
