@@ -1,11 +1,11 @@
 -- Terms as far as they show by themselves.
-use Rattle.std.proofs.Common.{◌≡◌, ℕ, zero, suc, ◌+◌, Bool, true, false, if◌then◌else◌, List, [], ◌∷◌, None, slice_get, get_or, refl, sym, ap, ◌∙◌, arith}
+use Rattle.std.proofs.Common.{◌≡◌, ℕ, zero, suc, ◌+◌, true, false, if◌then◌else◌, List, [], ◌∷◌, None, slice_get, get_or, refl, sym, ap, ◌∙◌, arith}
 use Rattle.std.proofs.lemmas.Option.{get_or_from_slice_get}
-use Rattle.prim_gates.specs.Shallow.{blank, is_bad, tree_shown}
+use Rattle.prim_gates.specs.Shallow.{blank, tree_shown}
+use Rattle.prim_gates.specs.Ended.{is_bad}
 use Rattle.prim_gates.specs.Reply.{Reply, Fault}
 use Rattle.prim_gates.specs.Shapes.{blanks, look_then, shown}
 use Rattle.tagged_words.specs.declared.look.Look.{Look}
-use Rattle.tagged_words.specs.declared.look.Look.TheVariants as look
 use Rattle.tagged_words.specs.Look.{look_of}
 use Rattle.tagged_words.specs.Seen as s
 use Rattle.tagged_words.specs.Store.{Store}

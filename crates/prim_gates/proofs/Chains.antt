@@ -10,9 +10,7 @@ use Rattle.beam_code.specs.BuiltIns.{BuiltIn}
 use Rattle.prim_gates.proofs.Pushed.{pushed_keeps}
 use Rattle.prim_gates.proofs.Seeing.{cons_first, cons_second, cons_is, tuple_is, tuple_seen}
 use Rattle.prim_gates.specs.Chain.{heads_by, IsChain, reads_down, with_place}
-use Rattle.prim_gates.specs.Reply.{Reply, Value, HeapFull, read, reads, word_or_none, pushed, cells, last_cell, list_made, tuple_made}
-use Rattle.prim_gates.specs.Said.{Answered}
-use Rattle.prim_gates.specs.declared.answer.PrimAnswer.{PrimAnswer}
+use Rattle.prim_gates.specs.Reply.{Value, HeapFull, read, reads, word_or_none, pushed, cells, last_cell, list_made, tuple_made}
 use Rattle.prim_gates.proofs.Cells.{length-cells}
 use Rattle.prim_gates.proofs.Below.{word_low}
 use Rattle.std.proofs.lemmas.Bool.Decides.{nat_tests}
@@ -43,34 +41,6 @@ still_there s ws at e = let w = some_is (word_of s at) e in ap is_some (pushed_k
 
 pub still_read : (s : Store) (ws : List ℕ) (at : ℕ) → is_some (word_of s at) ≡ true → read (pushed s ws) at ≡ read s at
 still_read s ws at e = let w = some_is (word_of s at) e in ap word_or_none (pushed_keeps s ws at w.0 w.1) ∙ sym (ap word_or_none w.1)
-
--- what has been pushed of cells, and what is left of them: the next cell goes to an address, with a tail
-pub record IsPushing (before : Store) (first : ℕ) (all : List ℕ) (end : ℕ) (now : Store) (top room tail : ℕ) (rest : List ℕ) : Type 0 where
-  pub words : List ℕ
-  pub store : now ≡ pushed before words
-  pub ahead : words ++ cells top rest tail ≡ cells first all end
-  pub last : last_cell top rest tail ≡ last_cell first all end
-  pub fits : 2 * length rest ≤ room
-
-pub pushing_begins : (s : Store) (top room end : ℕ) (all : List ℕ) → 2 * length all ≤ room → IsPushing s top all end s top room end all
-pushing_begins s top room end all low = record { words = []; store = pushed_none s; ahead = refl; last = refl; fits = low }
-
-module _ (before : Store) (first : ℕ) (all : List ℕ) (end : ℕ) (now : Store) (top room tail : ℕ) where
-  pub pushing_goes_on : (head : ℕ) (rest : List ℕ) (later : Store) (next space word : ℕ) → IsPushing before first all end now top room tail (head ∷ rest)
-      → later ≡ pushed now (head ∷ tail ∷ []) → next ≡ top + 8 → space + 2 ≡ room → word ≡ top + 1
-      → IsPushing before first all end later next space word rest
-  pushing_goes_on head rest later next space word p stored there fewer is =
-      let low : 2 * length (head ∷ rest) ≤ room = p.fits in
-      record {
-        words = p.words ++ head ∷ tail ∷ [];
-        store = stored ∙ ap (λ s. pushed s (head ∷ tail ∷ [])) p.store ∙ pushed_twice before p.words (head ∷ tail ∷ []);
-        ahead = append_later p.words (head ∷ tail ∷ []) (cells next rest word) ∙ ap (λ n. p.words ++ (head ∷ tail ∷ cells n rest word)) there ∙ ap (λ w. p.words ++ (head ∷ tail ∷ cells (top + 8) rest w)) is ∙ p.ahead;
-        last = ap (λ n. last_cell n rest word) there ∙ ap (last_cell (top + 8) rest) is ∙ p.last;
-        fits = omega arith;
-      }
-
-  pub pushing_ends : IsPushing before first all end now top room tail [] → (now ≡ pushed before (cells first all end)) × (tail ≡ last_cell first all end)
-  pushing_ends p = (p.store ∙ ap (pushed before) (sym (append_none p.words) ∙ p.ahead), p.last)
 
 -- the words of a list's cells are there
 module _ (s : Store) (names : List (List ℕ)) where
@@ -113,13 +83,6 @@ heads_first s w n m e = let same : n ≡ suc m = omega arith in ap (heads_by s w
 pub heads_none : (s : Store) (w n : ℕ) → n ≡ 0 → heads_by s w n ≡ []
 heads_none s w n e = ap (heads_by s w) e
 
-module _ (before : Store) (first : ℕ) (all : List ℕ) (end : ℕ) (now : Store) (top room tail : ℕ) (rest : List ℕ) (p : IsPushing before first all end now top room tail rest) where
-  pub there_now : (at : ℕ) → is_some (word_of before at) ≡ true → is_some (word_of now at) ≡ true
-  there_now at e = subst (λ s. is_some (word_of s at) ≡ true) (sym p.store) (still_there before p.words at e)
-
-  pub read_now : (at : ℕ) → is_some (word_of before at) ≡ true → read now at ≡ read before at
-  read_now at e = ap (λ s. read s at) p.store ∙ still_read before p.words at e
-
 -- the place where a word is there has an address
 pub place_low : (s : Store) (at : ℕ) → HEAP_START + 4 * length s.heap ≤ 2 ^ 32 → is_some (word_of s at) ≡ true → at < 2 ^ 32
 place_low s at within e =
@@ -138,9 +101,6 @@ list_fits room top hs end low =
     let n : length (cells top hs end) ≡ 2 * length hs = length-cells hs top end in
     let test : nat_lt room (length (cells top hs end)) ≡ false = grind (arith, nat_tests) in
     rw test refl
-
-pub answered_as : (before after : Store) (a : PrimAnswer) (r q : Reply) → r ≡ q → Answered before after a q → Answered before after a r
-answered_as before after a r q e h = subst (Answered before after a) (sym e) h
 
 -- ---- the elements of a tuple from the last one down
 
@@ -174,38 +134,6 @@ tuple_list_is s names b room top w at n v e h =
     ap (tuple_list s b room top w) seen.is ∙ ap (λ k. list_made room top (reverse (reads s (w + 2) k)) nil_word) seen.many ∙ ap (λ p. list_made room top (reverse (reads s p n)) nil_word) place
     ∙ ap (λ l. list_made room top l nil_word) (down_is_reverse s at n)
 
--- ---- words that are pushed one after the other
-
-pub record IsWriting (before : Store) (all : List ℕ) (now : Store) (room : ℕ) (rest : List ℕ) : Type 0 where
-  pub words : List ℕ
-  pub store : now ≡ pushed before words
-  pub ahead : words ++ rest ≡ all
-  pub fits : length rest ≤ room
-
-pub writing_begins : (s : Store) (room : ℕ) (all : List ℕ) → length all ≤ room → IsWriting s all s room all
-writing_begins s room all low = record { words = []; store = pushed_none s; ahead = refl; fits = low }
-
-pub writing_goes_on : (before : Store) (all : List ℕ) (now : Store) (room w : ℕ) (rest : List ℕ) (later : Store) (space : ℕ) → IsWriting before all now room (w ∷ rest)
-    → later ≡ pushed now (w ∷ []) → space + 1 ≡ room → IsWriting before all later space rest
-writing_goes_on before all now room w rest later space p stored fewer =
-    let low : length (w ∷ rest) ≤ room = p.fits in
-    record {
-      words = p.words ++ w ∷ [];
-      store = stored ∙ ap (λ s. pushed s (w ∷ [])) p.store ∙ pushed_twice before p.words (w ∷ []);
-      ahead = append_later p.words (w ∷ []) rest ∙ p.ahead;
-      fits = omega arith;
-    }
-
-pub writing_ends : (before : Store) (all : List ℕ) (now : Store) (room : ℕ) (rest : List ℕ) → rest ≡ [] → IsWriting before all now room rest → now ≡ pushed before all
-writing_ends before all now room rest none p = p.store ∙ ap (pushed before) (sym (append_none p.words) ∙ ap (λ l. p.words ++ l) (sym none) ∙ p.ahead)
-
-module _ (before : Store) (all : List ℕ) (now : Store) (room : ℕ) (rest : List ℕ) (p : IsWriting before all now room rest) where
-  pub there_written : (at : ℕ) → is_some (word_of before at) ≡ true → is_some (word_of now at) ≡ true
-  there_written at e = subst (λ s. is_some (word_of s at) ≡ true) (sym p.store) (still_there before p.words at e)
-
-  pub read_written : (at : ℕ) → is_some (word_of before at) ≡ true → read now at ≡ read before at
-  read_written at e = ap (λ s. read s at) p.store ∙ still_read before p.words at e
-
 pub tuple_full : (room top : ℕ) (ws : List ℕ) → room ≤ length ws → tuple_made room top ws ≡ HeapFull
 tuple_full room top ws low =
     let test : nat_lt room (1 + length ws) ≡ true = grind (arith, nat_tests) in
@@ -229,10 +157,6 @@ chain_kept s ws w (suc n) h =
       ap (λ x. x ∷ heads_by (pushed s ws) (read (pushed s ws) (w + 3)) n) (still_read s ws (w - 1) h.1)
           ∙ ap (λ l. read s (w - 1) ∷ l) (ap (λ z. heads_by (pushed s ws) z n) (sym next) ∙ rest.1),
     )
-
-pub headed : (s s1 s2 : Store) (h count : ℕ) (ws : List ℕ) → s1 ≡ pushed s (h ∷ []) → h ≡ header_word count → length ws ≡ count → s2 ≡ pushed s1 ws → s2 ≡ pushed s (header_word (length ws) ∷ ws)
-headed s s1 s2 h count ws first is size later =
-    later ∙ ap (λ z. pushed z ws) first ∙ pushed_twice s (h ∷ []) ws ∙ ap (λ x. pushed s (x ∷ ws)) (is ∙ ap header_word (sym size))
 
 -- ---- the elements of a tuple from a place on, with another one at an index
 

@@ -1,11 +1,8 @@
 -- The heads of a list that are kept, and taken from the last one down.
-use Rattle.std.proofs.Common.{◌≡◌, ◌≢◌, ℕ, zero, suc, ◌+◌, ◌-◌, ◌*◌, ◌<◌, ◌≤◌, ◌++◌, ◌⊎◌, inl, inr, is_some, Some, true, List, [], ◌∷◌, length, reverse, slice_get, slice_set, refl, ap, sym, subst, ◌∙◌, arith}
+use Rattle.std.proofs.Common.{◌≡◌, ℕ, zero, suc, ◌+◌, ◌-◌, ◌<◌, ◌≤◌, ◌++◌, ◌⊎◌, inl, inr, Some, List, [], ◌∷◌, length, reverse, slice_get, slice_set, refl, ap, sym, subst, ◌∙◌, arith}
 use mathlib.Core.List.{reverse_aux}
-use Rattle.std.proofs.lemmas.List.{length-set}
-use Rattle.tagged_words.specs.Look.{address_end}
-use Rattle.tagged_words.specs.declared.look.Look.TheVariants as look
 use Rattle.tagged_words.specs.Seen.{Seen, Int, Atom, Nil, Cons, Tuple, Bad, Sees}
-use Rattle.tagged_words.specs.Store.{Store, word_of, words_in}
+use Rattle.tagged_words.specs.Store.{Store, words_in}
 use Rattle.word_walks.proofs.Ordinals.{higher, few}
 use Rattle.word_walks.specs.Ordinal.{ordinal}
 use Rattle.prim_gates.proofs.Chains.{append_none, append_later, heads_first, chain_rest}

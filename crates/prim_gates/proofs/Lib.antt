@@ -14,3 +14,5 @@ pub mod ListWalks
 pub mod Members
 pub mod Chains
 pub mod Kept
+pub mod Growing
+pub mod Ranges

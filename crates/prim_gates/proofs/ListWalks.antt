@@ -1,14 +1,12 @@
 -- Walks along a list: what is seen of its rest, behind so many cells.
-use Rattle.std.proofs.Common.{◌≡◌, ℕ, zero, suc, ◌+◌, ◌-◌, ◌*◌, ◌<◌, ◌≤◌, List, [], ◌∷◌, length, nat_lt, refl, ap, sym, subst, ◌∙◌, arith}
-use Rattle.std.proofs.lemmas.Bool.Decides.{nat_tests}
+use Rattle.std.proofs.Common.{◌≡◌, ℕ, ◌+◌, ◌-◌, ◌<◌, ◌≤◌, List, [], ◌∷◌, length, refl, ap, sym, subst, ◌∙◌, arith}
 use Rattle.tagged_words.specs.declared.look.Look.{Look}
 use Rattle.tagged_words.specs.declared.look.Look.TheVariants as look
 use Rattle.tagged_words.specs.Look.{look_of, address_end}
-use Rattle.tagged_words.specs.Seen.{Seen, Int, Atom, Nil, Cons, Tuple, Bad, AllSeen, seen_size, Sees}
+use Rattle.tagged_words.specs.Seen.{Seen, Int, Atom, Nil, Cons, Tuple, Bad, Sees}
 use Rattle.tagged_words.specs.Store.{Store}
-use Rattle.beam_code.specs.BuiltIns.{BuiltIn}
 use Rattle.prim_gates.proofs.Seeing.{cons_low, cons_is, cons_seen}
-use Rattle.prim_gates.specs.Reply.{Reply, read}
+use Rattle.prim_gates.specs.Reply.{read}
 use Rattle.prim_gates.specs.Shapes.{heads, End, Proper, Improper, Met, end_of}
 
 -- how a list ends whose last word shows no cons

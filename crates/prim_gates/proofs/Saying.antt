@@ -12,7 +12,7 @@ use Rattle.prim_gates.proofs.Each.{Each, each_length, each_map}
 use Rattle.prim_gates.proofs.Plain.{MayFail, IsPlain}
 use Rattle.prim_gates.proofs.Pushed.{stays_pushed, has_pushed}
 use Rattle.prim_gates.specs.Gate.{Memory}
-use Rattle.prim_gates.specs.Law.{IsMemory, IsGiven, SaysSo}
+use Rattle.prim_gates.specs.Law.{IsMemory, IsGiven, SaysSo, heap_end}
 use Rattle.prim_gates.specs.Reply.{Value, own_atom, truth_word, says, raised, valued, cells, last_cell, made, list_made, tuple_made, pushed}
 use Rattle.tagged_words.proofs.WordLaws.{class_of-small_word, class_of-atom_word}
 use Rattle.tagged_words.specs.declared.addresses.TheConstants.{HEAP_START}
@@ -103,7 +103,7 @@ module _ (m : Memory) (names : List (List ℕ)) (ok : IsMemory m) (table : IsTab
   list_stands (head ∷ heads) vs end tail each h room =
       let ws : List ℕ = cells m.top (head ∷ heads) end in
       let top : m.top ≡ HEAP_START + 4 * length m.store.heap = ok.top (omega arith) in
-      let low = ok.low in
+      let low : m.top + 4 * m.room ≤ heap_end = ok.low (omega arith) in
       cells_stand (pushed m.store ws) names m.top m.top (head ∷ heads) vs end tail (omega arith) (omega arith) (omega arith) (omega arith)
       (all_under_top ws top (head ∷ heads) vs each) (under_top ws top end tail h) (has_pushed m.store ws m.top top)
 
@@ -118,8 +118,8 @@ module _ (m : Memory) (names : List (List ℕ)) (ok : IsMemory m) (table : IsTab
   pub tuple_says : (ws : List ℕ) (vs : List t.Tree) (n : ℕ) → Each (IsTreeOf m.store names) ws vs → n ≡ 1 + length vs → IsGiven m names (t.Tuple (t.trees_of vs)) n (tuple_made m.room m.top ws)
   tuple_says ws vs n each count =
       let many = each_length (IsTreeOf m.store names) ws vs each in
-      let low = ok.low in
       made_says (t.Tuple (t.trees_of vs)) n (m.top + 2) (header_word (length ws) ∷ ws) (omega arith) (λ room.
       let top : m.top ≡ HEAP_START + 4 * length m.store.heap = ok.top (omega arith) in
+      let low : m.top + 4 * m.room ≤ heap_end = ok.low (omega arith) in
       tuple_stands (pushed m.store (header_word (length ws) ∷ ws)) names m.top ws vs (omega arith) (omega arith) (omega arith)
       (all_under_top (header_word (length ws) ∷ ws) top ws vs each) (has_pushed m.store (header_word (length ws) ∷ ws) m.top top))

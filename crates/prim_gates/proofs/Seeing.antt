@@ -1,5 +1,5 @@
 -- What is seen from a word, by what a look at it shows.
-use Rattle.std.proofs.Common.{◌≡◌, ℕ, zero, suc, ◌+◌, ◌-◌, ◌*◌, ◌^◌, ◌<◌, ◌≤◌, ◌⊎◌, inl, inr, true, Some, is_some, List, [], pos, length, nat_lt, refl, ap, sym, subst, ◌∙◌, arith}
+use Rattle.std.proofs.Common.{◌≡◌, ℕ, zero, suc, ◌+◌, ◌-◌, ◌*◌, ◌^◌, ◌<◌, ◌≤◌, true, is_some, List, [], ℤ, pos, length, nat_lt, refl, ap, sym, subst, ◌∙◌, arith}
 use Rattle.std.proofs.lemmas.Bool.Decides.{nat_tests}
 use Rattle.beam_code.specs.BuiltIns.{BuiltIn}
 use Rattle.tagged_words.proofs.SeenLaws.{class_shown}
@@ -8,7 +8,7 @@ use Rattle.tagged_words.specs.declared.addresses.TheConstants.{HEAP_START}
 use Rattle.tagged_words.specs.declared.look.Look.TheVariants as look
 use Rattle.tagged_words.specs.Look.{look_of}
 use Rattle.tagged_words.specs.Seen.{Seen, Int, Atom, Nil, Cons, Tuple, Bad, AllSeen, seen_size, Sees, SeesAll}
-use Rattle.tagged_words.specs.Store.{Store, word_of, is_whole}
+use Rattle.tagged_words.specs.Store.{Store, word_of}
 use Rattle.word_walks.proofs.Cells.{first_word, later_words, whole_end, cons_shown, tuple_shown}
 use Rattle.prim_gates.proofs.Walks.{cons_word, boxed_word, read_there}
 use Rattle.prim_gates.specs.Reply.{read, Value}
@@ -95,3 +95,13 @@ element_at s b (suc i) first tuple at vs some low is =
     let test : nat_lt i (seen_size vs) ≡ true = grind (arith, nat_tests) in
     let place : at + 4 * suc i ≡ tuple - 2 + 4 * (i + 1) = omega arith in
     rw test (ap (λ p. Value (read s p) []) place)
+
+-- what is seen where an integer is shown, and a word that stands for no term
+module _ (s : Store) (names : List (List ℕ)) (limit w : ℕ) where
+  pub small_seen : (i : ℤ) (v : Seen) → look_of s names limit w ≡ look.Small i → Sees s names limit w v → v ≡ Int i
+  small_seen i (Int j) e h = let same : look.Small i ≡ look.Small j = sym e ∙ h in let value : i ≡ j = cc in ap Int (sym value)
+  small_seen i (Atom a) e h = let same : look.Small i ≡ look.Atom h.0 = sym e ∙ h.1 in absurd cc
+  small_seen i Nil e h = let same : look.Small i ≡ look.Nil = sym e ∙ h in absurd cc
+  small_seen i (Cons head tail) e h = let same : look.Small i ≡ look.Cons h.0 = sym e ∙ h.3 in absurd cc
+  small_seen i (Tuple vs) e h = let same : look.Small i ≡ look.Tuple h.0 (seen_size vs) = sym e ∙ h.1 in absurd cc
+  small_seen i (Bad v) e h = let same : look.Small i ≡ look.Bad = sym e ∙ h.0 in absurd cc

@@ -1,5 +1,5 @@
 -- What the code says of a list and of a word.
-use Rattle.std.specs.Prelude.{ℕ, Bool, true, false}
+use Rattle.std.specs.Prelude.{Bool, true, false}
 use Rattle.prim_gates.specs.declared.lists.ListEnd.{ListEnd}
 use Rattle.prim_gates.specs.declared.lists.ListEnd.TheVariants as list
 use Rattle.tagged_words.specs.declared.look.Look.{Look}

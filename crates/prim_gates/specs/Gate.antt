@@ -13,6 +13,9 @@ pub record Memory : Type 0 where
   pub room : ℕ
   pub top : ℕ
 
+abbrev pub memory : Store → ℕ → ℕ → Memory
+memory store room top = record { store = store; room = room; top = top }
+
 -- what a built-in does with its arguments
 pub data Shape : Type 0 where
   OneTerm TwoIntegers TwoTruths Head Tail Element SetElement ToList Length Append ToTuple Reverse Member Raises Never : Shape

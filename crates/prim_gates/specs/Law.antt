@@ -17,7 +17,7 @@ heap_end = 2147483648
 -- words are pushed where the words of the heap end, and below its end
 pub record IsMemory (m : Memory) : Type 0 where
   pub top : 0 < m.room → m.top ≡ HEAP_START + 4 * length m.store.heap
-  pub low : m.top + 4 * m.room ≤ heap_end
+  pub low : 0 < m.room → m.top + 4 * m.room ≤ heap_end
 
 -- an argument stands for a term: its word does, and the whole term is seen from it
 pub record Stands (m : Memory) (names : List (List ℕ)) (x : Argument) (v : Tree) : Type 0 where

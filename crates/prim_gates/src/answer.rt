@@ -26,7 +26,7 @@ pub(crate) const TRUE: u32 = 4;
 pub(crate) const FALSE: u32 = 5;
 
 /// The answer of a built-in that is true or false.
-pub fn says(truth: bool) -> PrimAnswer
+pub(crate) fn says(truth: bool) -> PrimAnswer
     ensures { said result ≡ replies.says truth }
 {
     if truth {
@@ -41,8 +41,12 @@ const BADARITH_WORD: u32 = 395;
 
 const BADARG_WORD: u32 = 459;
 
-/// The number of the class `error`.
-const ERROR: u32 = 0;
+/// The numbers of the classes `error`, `exit` and `throw`.
+pub(crate) const ERROR: u32 = 0;
+
+pub(crate) const EXIT: u32 = 1;
+
+pub(crate) const THROW: u32 = 2;
 
 /// Raises `badarith`.
 pub(crate) const BADARITH: PrimAnswer = PrimAnswer::Raise {

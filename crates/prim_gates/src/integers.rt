@@ -5,7 +5,7 @@ ghost use Rattle.std.specs.Prelude.{◌≡◌, ◌<◌};
 ghost use Rattle.term_tree.specs.Small.{IsSmall};
 ghost use Rattle.prim_gates.specs.Reply.{valued};
 ghost use Rattle.prim_gates.specs.Said.{said};
-ghost use Rattle.prim_gates.specs.Shallow.{on_integers};
+ghost use Rattle.prim_gates.specs.Shallow.{on_two};
 ghost use Rattle.term_tree.specs.Tree.{Int};
 
 use crate::answer::{BADARITH, PrimAnswer};
@@ -68,9 +68,9 @@ fn remainder(i: i32, j: i32) -> PrimAnswer
 }
 
 /// The answer of a built-in on two integers: those with the numbers 0 to 9.
-pub fn on_two(k: u32, i: i32, j: i32) -> PrimAnswer
+pub(crate) fn on_two(k: u32, i: i32, j: i32) -> PrimAnswer
     requires { k < 10 }
-    ensures { said result ≡ on_integers k (Int i) (Int j) }
+    ensures { said result ≡ on_two k (Int i) (Int j) }
 {
     match k {
         0 => add(i, j),

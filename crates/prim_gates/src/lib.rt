@@ -3,6 +3,7 @@
 
 mod answer;
 mod bits;
+mod gates;
 mod integers;
 mod laws;
 mod lists;
@@ -11,11 +12,6 @@ mod orders;
 mod shallow;
 mod tuples;
 
-pub use answer::{PrimAnswer, says};
-pub use integers::on_two;
+pub use answer::PrimAnswer;
+pub use gates::gate;
 pub use laws::built_ins_answer_as_on_terms;
-pub use lists::{append, list_length, list_to_tuple, member, reverse};
-pub use looking::one_term;
-pub use orders::{holds, of_either, of_order};
-pub use shallow::{of_one, of_truths, truth};
-pub use tuples::{element, part, set_element, tuple_to_list};

@@ -4,8 +4,10 @@ ghost use Rattle.beam_code.specs.BuiltIns.{BuiltIn, Badarg};
 ghost use Rattle.std.specs.Prelude.{◌≡◌, ◌+◌, ◌*◌, ◌<◌, ◌≤◌, ℕ, pos, List, [], ◌∷◌, length, reverse, slice_get};
 ghost use Rattle.prim_gates.specs.Ended.{ended, is_bad};
 ghost use Rattle.prim_gates.specs.Chain.{heads_by, kept_down, IsChain};
-ghost use Rattle.prim_gates.specs.Reply.{valued, pushed, cells, last_cell, list_made, tuple_made};
-ghost use Rattle.prim_gates.specs.Said.{said, Answered};
+ghost use Rattle.prim_gates.specs.Gate.{prim};
+ghost use Rattle.prim_gates.specs.Reply.{valued, Argument, cells, last_cell};
+ghost use Rattle.prim_gates.specs.Said.{said, Answered, HasPushed};
+ghost use Rattle.prim_gates.specs.Shallow.{argument};
 ghost use Rattle.prim_gates.specs.Shapes.{heads, end_of, at_end, member_of};
 ghost use Rattle.tagged_words.specs.Look.{address_end, look_of};
 ghost use Rattle.tagged_words.specs.Seen.{Seen, Sees};
@@ -68,7 +70,7 @@ pub(crate) fn walk<W: Words>(words: &W, atoms: &Atoms, w: u32) -> Walked
 }
 
 /// How many elements a list has that ends in the empty list.
-pub fn list_length<W: Words>(words: &W, atoms: &Atoms, w: u32) -> PrimAnswer
+pub(crate) fn list_length<W: Words>(words: &W, atoms: &Atoms, w: u32) -> PrimAnswer
     ensures { (b : BuiltIn) (v : Seen) → b.failure ≡ Badarg → Sees (W.store words.now) atoms.now address_end w v
         → said result ≡ at_end b w (valued b.failure w (values.exact (pos (length (heads (W.store words.now) w v))))) (end_of v) }
 {
@@ -91,7 +93,7 @@ fn shows_nothing<W: Words>(words: &W, atoms: &Atoms, limit: u32, w: u32) -> bool
 }
 
 /// Whether a term is an element of a list: each head is compared before its tail is looked at.
-pub fn member<W: Words>(
+pub(crate) fn member<W: Words>(
     words: &W,
     atoms: &Atoms,
     first: u32,
@@ -132,17 +134,23 @@ pub fn member<W: Words>(
     }
 }
 
+/// Pushes a word where there is room.
+pub(crate) fn push_word<H: HeapWords>(heap: &mut H, word: u32)
+    requires { 0 < H.room heap.old }
+    ensures { HasPushed H.Grows H.store H.room H.end heap.old (word ∷ []) heap.new }
+{
+    heap.push(word);
+}
+
 /// Pushes a cons, and gives its word.
 pub(crate) fn push_cell<H: HeapWords>(heap: &mut H, head: u32, tail: u32) -> u32
     requires { 2 ≤ H.room heap.old }
-    ensures store { H.store heap.new ≡ pushed (H.store heap.old) (head ∷ tail ∷ []) }
-    ensures top { H.end heap.new ≡ H.end heap.old + 8 }
-    ensures room { H.room heap.new + 2 ≡ H.room heap.old }
+    ensures pushed { HasPushed H.Grows H.store H.room H.end heap.old (head ∷ tail ∷ []) heap.new }
     ensures word { result ≡ H.end heap.old + 1 }
 {
     let cell = heap.top();
-    heap.push(head);
-    heap.push(tail);
+    push_word(heap, head);
+    push_word(heap, tail);
     cell + 1
 }
 
@@ -150,7 +158,7 @@ pub(crate) fn push_cell<H: HeapWords>(heap: &mut H, head: u32, tail: u32) -> u32
 fn push_heads<H: HeapWords>(heap: &mut H, list: u32, count: u32, end: u32) -> u32
     requires there { IsChain (H.store heap.old) list count }
     requires room { 2 * count ≤ H.room heap.old }
-    ensures store { H.store heap.new ≡ pushed (H.store heap.old) (cells (H.end heap.old) (heads_by (H.store heap.old) list count) end) }
+    ensures pushed { HasPushed H.Grows H.store H.room H.end heap.old (cells (H.end heap.old) (heads_by (H.store heap.old) list count) end) heap.new }
     ensures word { result ≡ last_cell (H.end heap.old) (heads_by (H.store heap.old) list count) end }
 {
     let mut word = list;
@@ -166,10 +174,9 @@ fn push_heads<H: HeapWords>(heap: &mut H, list: u32, count: u32, end: u32) -> u3
 }
 
 /// The elements of a list in reverse, before a tail.
-pub fn reverse<H: HeapWords>(heap: &mut H, atoms: &Atoms, list: u32, tail: u32) -> PrimAnswer
-    ensures { (b : BuiltIn) (v : Seen) → b.failure ≡ Badarg → Sees (H.store heap.old) atoms.now address_end list v
-        → Answered (H.store heap.old) (H.store heap.new) result
-        (at_end b list (list_made (H.room heap.old) (H.end heap.old) (heads (H.store heap.old) list v) tail) (end_of v)) }
+pub(crate) fn reverse<H: HeapWords>(heap: &mut H, atoms: &Atoms, list: u32, tail: u32) -> PrimAnswer
+    ensures { (v y : Seen) (z : Argument) → Sees (H.store heap.old) atoms.now address_end list v
+        → Answered H.Grows H.store H.room H.end heap.old result (λ m. prim 43 m (argument list v) (argument tail y) z) heap.new }
 {
     let walked = walk(heap, atoms, list);
     match walked.end {
@@ -184,21 +191,11 @@ pub fn reverse<H: HeapWords>(heap: &mut H, atoms: &Atoms, list: u32, tail: u32) 
     }
 }
 
-/// Pushes a word where there is room.
-pub(crate) fn push_word<H: HeapWords>(heap: &mut H, word: u32)
-    requires { 0 < H.room heap.old }
-    ensures store { H.store heap.new ≡ pushed (H.store heap.old) (word ∷ []) }
-    ensures top { H.end heap.new ≡ H.end heap.old + 4 }
-    ensures room { H.room heap.new + 1 ≡ H.room heap.old }
-{
-    heap.push(word);
-}
-
 /// Pushes the heads of so many cells of a list.
 fn push_elements_of<H: HeapWords>(heap: &mut H, list: u32, count: u32)
     requires there { IsChain (H.store heap.old) list count }
     requires room { count ≤ H.room heap.old }
-    ensures { H.store heap.new ≡ pushed (H.store heap.old) (heads_by (H.store heap.old) list count) }
+    ensures { HasPushed H.Grows H.store H.room H.end heap.old (heads_by (H.store heap.old) list count) heap.new }
 {
     let mut word = list;
     let mut left = count;
@@ -211,10 +208,9 @@ fn push_elements_of<H: HeapWords>(heap: &mut H, list: u32, count: u32)
 }
 
 /// The elements of a list as a tuple.
-pub fn list_to_tuple<H: HeapWords>(heap: &mut H, atoms: &Atoms, list: u32) -> PrimAnswer
-    ensures { (b : BuiltIn) (v : Seen) → b.failure ≡ Badarg → Sees (H.store heap.old) atoms.now address_end list v
-        → Answered (H.store heap.old) (H.store heap.new) result
-        (at_end b list (tuple_made (H.room heap.old) (H.end heap.old) (heads (H.store heap.old) list v)) (end_of v)) }
+pub(crate) fn list_to_tuple<H: HeapWords>(heap: &mut H, atoms: &Atoms, list: u32) -> PrimAnswer
+    ensures { (v : Seen) (y z : Argument) → Sees (H.store heap.old) atoms.now address_end list v
+        → Answered H.Grows H.store H.room H.end heap.old result (λ m. prim 41 m (argument list v) y z) heap.new }
 {
     let walked = walk(heap, atoms, list);
     match walked.end {
@@ -253,7 +249,7 @@ fn keep_heads<W: Words>(words: &W, list: u32, count: u32, scratch: &mut Scratch)
 fn push_kept<H: HeapWords>(heap: &mut H, scratch: &Scratch, count: u32, end: u32) -> u32
     requires kept { count ≤ length scratch.now }
     requires room { 2 * count ≤ H.room heap.old }
-    ensures store { H.store heap.new ≡ pushed (H.store heap.old) (cells (H.end heap.old) (kept_down scratch.now count) end) }
+    ensures pushed { HasPushed H.Grows H.store H.room H.end heap.old (cells (H.end heap.old) (kept_down scratch.now count) end) heap.new }
     ensures word { result ≡ last_cell (H.end heap.old) (kept_down scratch.now count) end }
 {
     let mut left = count;
@@ -267,7 +263,7 @@ fn push_kept<H: HeapWords>(heap: &mut H, scratch: &Scratch, count: u32, end: u32
 }
 
 /// The elements of a list before a tail.
-pub fn append<H: HeapWords>(
+pub(crate) fn append<H: HeapWords>(
     heap: &mut H,
     atoms: &Atoms,
     list: u32,
@@ -275,9 +271,8 @@ pub fn append<H: HeapWords>(
     scratch: &mut Scratch,
 ) -> PrimAnswer
     requires room { words_in (H.store heap.old) < length scratch.old }
-    ensures answer { (b : BuiltIn) (v : Seen) → b.failure ≡ Badarg → Sees (H.store heap.old) atoms.now address_end list v
-        → Answered (H.store heap.old) (H.store heap.new) result
-        (at_end b list (list_made (H.room heap.old) (H.end heap.old) (reverse (heads (H.store heap.old) list v)) tail) (end_of v)) }
+    ensures answer { (v y : Seen) (z : Argument) → Sees (H.store heap.old) atoms.now address_end list v
+        → Answered H.Grows H.store H.room H.end heap.old result (λ m. prim 40 m (argument list v) (argument tail y) z) heap.new }
     ensures same { length scratch.new ≡ length scratch.old }
 {
     let walked = walk(heap, atoms, list);

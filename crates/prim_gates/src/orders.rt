@@ -1,13 +1,12 @@
 //! Built-ins that compare two terms (Erlang reference manual, Expressions, Term Comparisons).
 ghost use Rattle.std.specs.Prelude.{◌≡◌, ◌<◌, ◌≤◌, length};
-ghost use Rattle.prim_gates.specs.Reply as replies;
+ghost use Rattle.prim_gates.specs.Gate.{Memory, prim};
+ghost use Rattle.prim_gates.specs.Reply.{Argument};
 ghost use Rattle.prim_gates.specs.Said.{said};
 ghost use Rattle.prim_gates.specs.Shallow.{argument, ordered, second_taken};
-ghost use Rattle.prim_gates.specs.Shapes.{of_either, on_order};
 ghost use Rattle.tagged_words.specs.Look.{address_end};
 ghost use Rattle.tagged_words.specs.Seen.{Seen, Sees};
 ghost use Rattle.tagged_words.specs.Store.{words_in};
-ghost use Rattle.word_walks.specs.Compared.{compared};
 
 use crate::answer::{PrimAnswer, says};
 use std::cmp::Ordering;
@@ -15,7 +14,7 @@ use tagged_words::{Atoms, Words};
 use word_walks::{Scratch, compare_words};
 
 /// Whether the test of a built-in holds of an order: those with the numbers 14 to 21.
-pub fn holds(k: u32, order: Ordering) -> bool
+fn holds(k: u32, order: Ordering) -> bool
     requires low { 14 ≤ k }
     requires high { k ≤ 21 }
     ensures { result ≡ ordered k order }
@@ -34,7 +33,7 @@ pub fn holds(k: u32, order: Ordering) -> bool
 
 /// The answer of a built-in that compares two terms: those with the numbers 14 to 21. It looks at words as
 /// `compare_words` does.
-pub fn of_order<W: Words>(
+pub(crate) fn of_order<W: Words>(
     k: u32,
     words: &W,
     atoms: &Atoms,
@@ -45,7 +44,8 @@ pub fn of_order<W: Words>(
     requires low { 14 ≤ k }
     requires high { k ≤ 21 }
     requires room { words_in (W.store words.now) < length scratch.old }
-    ensures answer { (x y : Seen) → Sees (W.store words.now) atoms.now address_end a x → Sees (W.store words.now) atoms.now address_end b y → said result ≡ on_order (λ o. replies.says (ordered k o)) (compared x y) }
+    ensures answer { (m : Memory) (x y : Seen) (z : Argument) → Sees (W.store words.now) atoms.now address_end a x
+        → Sees (W.store words.now) atoms.now address_end b y → said result ≡ prim k m (argument a x) (argument b y) z }
     ensures same { length scratch.new ≡ length scratch.old }
 {
     match compare_words(words, atoms, a, b, scratch) {
@@ -67,7 +67,7 @@ fn takes_second(k: u32, order: Ordering) -> bool
 }
 
 /// The least of two terms, or the greatest: those with the numbers 37 and 38. Of equal ones it is the first.
-pub fn of_either<W: Words>(
+pub(crate) fn of_either<W: Words>(
     k: u32,
     words: &W,
     atoms: &Atoms,
@@ -78,7 +78,8 @@ pub fn of_either<W: Words>(
     requires low { 37 ≤ k }
     requires high { k ≤ 38 }
     requires room { words_in (W.store words.now) < length scratch.old }
-    ensures answer { (x y : Seen) → Sees (W.store words.now) atoms.now address_end a x → Sees (W.store words.now) atoms.now address_end b y → said result ≡ of_either (second_taken k) (argument a x) (argument b y) }
+    ensures answer { (m : Memory) (x y : Seen) (z : Argument) → Sees (W.store words.now) atoms.now address_end a x
+        → Sees (W.store words.now) atoms.now address_end b y → said result ≡ prim k m (argument a x) (argument b y) z }
     ensures same { length scratch.new ≡ length scratch.old }
 {
     match compare_words(words, atoms, a, b, scratch) {

@@ -1,9 +1,10 @@
 //! Built-ins that look at terms by themselves, and into no cell (Erlang reference manual, Expressions; the module
 //! erlang).
 ghost use Rattle.beam_code.specs.Answer as values;
-ghost use Rattle.std.specs.Prelude.{◌≡◌, ◌<◌, ◌≤◌, [], ◌∷◌, IsTrue, get_or};
+ghost use Rattle.std.specs.Prelude.{◌≡◌, ◌<◌, ◌≤◌, [], ◌∷◌, Some, IsTrue, get_or};
 ghost use Rattle.prim_gates.specs.Said.{said};
-ghost use Rattle.prim_gates.specs.Shallow.{tree_shown, on_one, on_truths, is_on_one};
+ghost use Rattle.term_tree.specs.Tree.{Tree};
+ghost use Rattle.prim_gates.specs.Shallow.{tree_shown, on_one, on_two, is_on_one};
 
 use crate::answer::{BADARG, BADARITH, PrimAnswer, says};
 use crate::integers::exact;
@@ -24,7 +25,7 @@ fn truth_named(text: &str) -> Option<bool>
 
 /// The truth that is shown.
 #[tactic(auto, using(crate::proofs::Blanks::unknown))]
-pub fn truth(atoms: &Atoms, look: Look) -> Option<bool>
+pub(crate) fn truth(atoms: &Atoms, look: Look) -> Option<bool>
     ensures { result ≡ values.truth_of (tree_shown atoms.now look) }
 {
     match look {
@@ -122,7 +123,7 @@ fn tuple_size(atoms: &Atoms, look: Look) -> PrimAnswer
 }
 
 /// The answer of a built-in that looks at one term by itself.
-pub fn of_one(k: u32, atoms: &Atoms, look: Look) -> PrimAnswer
+pub(crate) fn of_one(k: u32, atoms: &Atoms, look: Look) -> PrimAnswer
     requires { IsTrue (is_on_one k) }
     ensures { said result ≡ on_one k (tree_shown atoms.now look) }
 {
@@ -135,18 +136,24 @@ pub fn of_one(k: u32, atoms: &Atoms, look: Look) -> PrimAnswer
     }
 }
 
-/// The answer on two truths: those with the numbers 22 to 24.
-pub fn of_truths(k: u32, atoms: &Atoms, first: Look, second: Look) -> PrimAnswer
+/// The answer on a truth and what is shown beside it: those with the numbers 22 to 24.
+pub(crate) fn of_truths(k: u32, atoms: &Atoms, first: bool, second: Look) -> PrimAnswer
     requires low { 22 ≤ k }
     requires high { k ≤ 24 }
-    ensures { said result ≡ on_truths k (tree_shown atoms.now first) (tree_shown atoms.now second) }
+    ensures { (v : Tree) → values.truth_of v ≡ Some first → said result ≡ on_two k v (tree_shown atoms.now second) }
 {
-    let Some(a) = truth(atoms, first) else {
-        return BADARG;
-    };
-    let Some(b) = truth(atoms, second) else {
-        return BADARG;
-    };
+    match truth(atoms, second) {
+        Some(second) => joined(k, first, second),
+        None => BADARG,
+    }
+}
+
+/// The truth of two, as an answer: those with the numbers 22 to 24.
+fn joined(k: u32, a: bool, b: bool) -> PrimAnswer
+    requires low { 22 ≤ k }
+    requires high { k ≤ 24 }
+    ensures { (v u : Tree) → values.truth_of v ≡ Some a → values.truth_of u ≡ Some b → said result ≡ on_two k v u }
+{
     match k {
         22 => says(a && b),
         23 => says(a || b),

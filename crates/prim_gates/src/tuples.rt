@@ -1,12 +1,14 @@
 //! Built-ins that look into conses and tuples (Erlang reference manual, Data Types, Tuple and List).
 ghost use Rattle.beam_code.specs.BuiltIns.{BuiltIn, Badarg};
-ghost use Rattle.std.specs.Prelude.{◌≡◌, ℕ, ◌+◌, ◌*◌, ◌<◌, ◌≤◌, ◌<ℤ◌, Some, is_some, true, pos, nat_eq, if◌then◌else◌, ◌⊎◌};
+ghost use Rattle.std.specs.Prelude.{◌≡◌, ℕ, ◌+◌, ◌*◌, ◌<◌, ◌≤◌, ◌<ℤ◌, Some, is_some, true, pos, nat_eq, if◌then◌else◌, ◌⊎◌, [], ◌∷◌};
 ghost use Rattle.prim_gates.specs.Chain.{reads_down, with_place};
-ghost use Rattle.prim_gates.specs.Reply.{read, pushed, cells, last_cell};
-ghost use Rattle.prim_gates.specs.Said.{said, Answered};
-ghost use Rattle.prim_gates.specs.Shapes.{part_of, element_of, tuple_list, with_element};
+ghost use Rattle.prim_gates.specs.Reply.{read, cells, last_cell, Argument};
+ghost use Rattle.prim_gates.specs.Said.{said, Answered, HasPushed};
+ghost use Rattle.prim_gates.specs.Gate.{Memory, prim};
+ghost use Rattle.prim_gates.specs.Shallow.{argument, AreSeen};
+ghost use Rattle.prim_gates.specs.Shapes.{part_of, element_of};
 ghost use Rattle.tagged_words.specs.Look.{address_end};
-ghost use Rattle.tagged_words.specs.Seen.{Seen, Sees};
+ghost use Rattle.tagged_words.specs.Seen.{Seen, Sees, Int};
 ghost use Rattle.tagged_words.specs.Store.{word_of};
 ghost use Rattle.tagged_words.specs.Word.{nil_word};
 
@@ -30,7 +32,7 @@ pub(crate) fn word_there<W: Words>(words: &W, at: u32) -> u32
 }
 
 /// The word of a cons at an offset: 0 for its head, 4 for its tail.
-pub fn part<W: Words>(words: &W, atoms: &Atoms, offset: u32, w: u32) -> PrimAnswer
+pub(crate) fn part<W: Words>(words: &W, atoms: &Atoms, offset: u32, w: u32) -> PrimAnswer
     requires { (offset ≡ 0) ⊎ (offset ≡ 4) }
     ensures { (b : BuiltIn) (v : Seen) → b.failure ≡ Badarg → Sees (W.store words.now) atoms.now address_end w v → said result ≡ part_of (W.store words.now) b offset w v }
 {
@@ -51,7 +53,7 @@ fn without_sign(index: i32) -> u32
 }
 
 /// The element of a tuple at an index from 1.
-pub fn element<W: Words>(words: &W, atoms: &Atoms, index: i32, first: u32, tuple: u32) -> PrimAnswer
+fn element_at<W: Words>(words: &W, atoms: &Atoms, index: i32, first: u32, tuple: u32) -> PrimAnswer
     ensures { (b : BuiltIn) (v : Seen) → b.failure ≡ Badarg → Sees (W.store words.now) atoms.now address_end tuple v → said result ≡ element_of (W.store words.now) b index first tuple v }
 {
     match look_at(words, atoms, u32::MAX, tuple) {
@@ -71,11 +73,23 @@ pub fn element<W: Words>(words: &W, atoms: &Atoms, index: i32, first: u32, tuple
     }
 }
 
+/// The element of a tuple at an index from 1 that a word shows.
+pub(crate) fn element<W: Words>(words: &W, atoms: &Atoms, a: u32, b: u32) -> PrimAnswer
+    ensures { (m : Memory) (x y : Seen) (z : Argument) → m.store ≡ W.store words.now
+        → AreSeen (W.store words.now) atoms.now (a ∷ b ∷ []) (x ∷ y ∷ []) → said result ≡ prim 34 m (argument a x) (argument b y) z }
+{
+    match look_at(words, atoms, u32::MAX, a) {
+        Look::Small(index) => element_at(words, atoms, index, a, b),
+        Look::Bad => PrimAnswer::Fault { word: a },
+        _ => BADARG,
+    }
+}
+
 /// Pushes the elements of a tuple as a list, from its last one down, and gives the word of the list.
 fn push_elements<H: HeapWords>(heap: &mut H, at: u32, count: u32) -> u32
     requires there { (k : ℕ) → k < 1 + count → is_some (word_of (H.store heap.old) (at + 4 * k)) ≡ true }
     requires room { 2 * count ≤ H.room heap.old }
-    ensures store { H.store heap.new ≡ pushed (H.store heap.old) (cells (H.end heap.old) (reads_down (H.store heap.old) at count) nil_word) }
+    ensures pushed { HasPushed H.Grows H.store H.room H.end heap.old (cells (H.end heap.old) (reads_down (H.store heap.old) at count) nil_word) heap.new }
     ensures word { result ≡ last_cell (H.end heap.old) (reads_down (H.store heap.old) at count) nil_word }
 {
     let mut left = count;
@@ -89,9 +103,9 @@ fn push_elements<H: HeapWords>(heap: &mut H, at: u32, count: u32) -> u32
 }
 
 /// The elements of a tuple as a list.
-pub fn tuple_to_list<H: HeapWords>(heap: &mut H, atoms: &Atoms, w: u32) -> PrimAnswer
-    ensures { (b : BuiltIn) (v : Seen) → b.failure ≡ Badarg → Sees (H.store heap.old) atoms.now address_end w v
-        → Answered (H.store heap.old) (H.store heap.new) result (tuple_list (H.store heap.old) b (H.room heap.old) (H.end heap.old) w v) }
+pub(crate) fn tuple_to_list<H: HeapWords>(heap: &mut H, atoms: &Atoms, w: u32) -> PrimAnswer
+    ensures { (v : Seen) (y z : Argument) → Sees (H.store heap.old) atoms.now address_end w v
+        → Answered H.Grows H.store H.room H.end heap.old result (λ m. prim 42 m (argument w v) y z) heap.new }
 {
     match look_at(heap, atoms, u32::MAX, w) {
         Look::Tuple(at, count) => {
@@ -121,7 +135,7 @@ fn element_or<W: Words>(words: &W, at: u32, place: u32, index: u32, new: u32) ->
 fn push_with<H: HeapWords>(heap: &mut H, at: u32, count: u32, index: u32, new: u32)
     requires there { (k : ℕ) → k < 1 + count → is_some (word_of (H.store heap.old) (at + 4 * k)) ≡ true }
     requires room { count ≤ H.room heap.old }
-    ensures { H.store heap.new ≡ pushed (H.store heap.old) (with_place (H.store heap.old) at 1 count index new) }
+    ensures { HasPushed H.Grows H.store H.room H.end heap.old (with_place (H.store heap.old) at 1 count index new) heap.new }
 {
     let mut place = 1;
     let mut left = count;
@@ -134,7 +148,7 @@ fn push_with<H: HeapWords>(heap: &mut H, at: u32, count: u32, index: u32, new: u
 }
 
 /// A tuple with a new element at an index from 1.
-pub fn set_element<H: HeapWords>(
+fn set_at<H: HeapWords>(
     heap: &mut H,
     atoms: &Atoms,
     index: i32,
@@ -142,8 +156,8 @@ pub fn set_element<H: HeapWords>(
     tuple: u32,
     new: u32,
 ) -> PrimAnswer
-    ensures { (b : BuiltIn) (v : Seen) → b.failure ≡ Badarg → Sees (H.store heap.old) atoms.now address_end tuple v
-        → Answered (H.store heap.old) (H.store heap.new) result (with_element (H.store heap.old) b (H.room heap.old) (H.end heap.old) index first tuple v new) }
+    ensures { (v : Seen) (z : Seen) → Sees (H.store heap.old) atoms.now address_end tuple v
+        → Answered H.Grows H.store H.room H.end heap.old result (λ m. prim 39 m (argument first (Int index)) (argument tuple v) (argument new z)) heap.new }
 {
     match look_at(heap, atoms, u32::MAX, tuple) {
         Look::Tuple(at, count) => {
@@ -163,6 +177,24 @@ pub fn set_element<H: HeapWords>(
             PrimAnswer::Value(cell + 2)
         }
         Look::Bad => PrimAnswer::Fault { word: tuple },
+        _ => BADARG,
+    }
+}
+
+/// A tuple with a new element at an index from 1 that a word shows.
+pub(crate) fn set_element<H: HeapWords>(
+    heap: &mut H,
+    atoms: &Atoms,
+    a: u32,
+    b: u32,
+    c: u32,
+) -> PrimAnswer
+    ensures { (x y z : Seen) → AreSeen (H.store heap.old) atoms.now (a ∷ b ∷ []) (x ∷ y ∷ [])
+        → Answered H.Grows H.store H.room H.end heap.old result (λ m. prim 39 m (argument a x) (argument b y) (argument c z)) heap.new }
+{
+    match look_at(heap, atoms, u32::MAX, a) {
+        Look::Small(index) => set_at(heap, atoms, index, a, b, c),
+        Look::Bad => PrimAnswer::Fault { word: a },
         _ => BADARG,
     }
 }

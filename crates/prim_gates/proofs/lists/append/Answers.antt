@@ -1,17 +1,20 @@
-use Rattle.std.proofs.Common.{◌≡◌, ℕ, ◌+◌, ◌*◌, ◌/◌, ◌<◌, ◌≤◌, List, length, reverse, slice_get, refl, sym, ap, subst, ◌∙◌, arith}
+use Rattle.std.proofs.Common.{◌≡◌, ℕ, ◌/◌, ◌<◌, ◌≤◌, List, length, reverse, slice_get, refl, sym, ap, subst, ◌∙◌, arith}
 use Rattle.tagged_words.proofs.SeenLaws.{something_seen}
 use Rattle.tagged_words.specs.Look.{address_end}
 use Rattle.tagged_words.specs.Store.{Store, words_in}
-use Rattle.prim_gates.proofs.Chains.{chained, list_full, list_fits, answered_as, pushed_none}
+use Rattle.prim_gates.proofs.Chains.{chained, list_full, list_fits}
+use Rattle.prim_gates.proofs.Growing.{only_said, made_so}
+use Rattle.prim_gates.proofs.Ranges.{built_in}
+use Rattle.prim_gates.specs.declared.answer.PrimAnswer.TheVariants as answer
 use Rattle.prim_gates.proofs.Kept.{heads_few, kept_is_reverse, length-kept_down}
 use Rattle.prim_gates.specs.Chain.{heads_by, kept_down, IsChain}
 use Rattle.prim_gates.specs.Ended.{ended}
-use Rattle.prim_gates.specs.Reply.{Value, cells, list_made}
+use Rattle.prim_gates.specs.Reply.{list_made}
 use Rattle.prim_gates.specs.Shapes.{heads, end_of, at_end, Proper}
 use Rattle.prim_gates.proofs.lists.append.Goals as goal
 
 pub returns-then-walked-left-clause-answer : goal.returns-then-walked-left-clause-answer
-returns-then-walked-left-clause-answer g c = λ b v fails h.
+returns-then-walked-left-clause-answer g c = λ v y z h.
     let s : Store = (g.H.Words.store c.args.heap.now) in
     let room : ℕ = (g.H.HeapWords.room c.args.heap.now) in
     let top : ℕ = (g.H.HeapWords.end c.args.heap.now) in
@@ -22,8 +25,7 @@ returns-then-walked-left-clause-answer g c = λ b v fails h.
     let space : c.left.result ≡ room = c.left.ensures in
     let full : c.left.result / 2 < count = c.if-walked-left.true in
     let size : length (reverse hs) ≡ count = ap length (sym (kept_is_reverse hs hs count (sym many) (λ k low. refl))) ∙ length-kept_down hs count in
-    answered_as s s _ _ _ (ap (at_end b c.args.list (list_made room top (reverse hs) c.args.tail)) ends ∙ list_full room top (reverse hs) c.args.tail (omega arith))
-    (record { says = refl; pushes = pushed_none s })
+    only_said c.args.heap.now answer.HeapFull _ (sym (ap (at_end (built_in 40) c.args.list (list_made room top (reverse hs) c.args.tail)) ends ∙ list_full room top (reverse hs) c.args.tail (omega arith)))
 
 pub keep_heads-requires-clause-there : goal.keep_heads-requires-clause-there
 keep_heads-requires-clause-there g c =
@@ -51,7 +53,7 @@ push_kept-requires-clause-kept g c =
     omega arith
 
 pub returns-else-walked-left-clause-answer : goal.returns-else-walked-left-clause-answer
-returns-else-walked-left-clause-answer g c = λ b v fails h.
+returns-else-walked-left-clause-answer g c = λ v y z h.
     let s : Store = (g.H.Words.store c.args.heap.now) in
     let room : ℕ = (g.H.HeapWords.room c.args.heap.now) in
     let top : ℕ = (g.H.HeapWords.end c.args.heap.now) in
@@ -65,5 +67,5 @@ returns-else-walked-left-clause-answer g c = λ b v fails h.
     let same : hs ≡ heads_by s c.args.list count = (chained s c.args.atoms.now address_end c.args.list v h).1 ∙ ap (heads_by s c.args.list) (sym many) in
     let kept : ks ≡ reverse hs = kept_is_reverse c.keep_heads.new.scratch hs count (sym many) (λ k low. c.keep_heads.ensures.kept k low ∙ ap (λ l. slice_get l k) (sym same)) in
     let size : length ks ≡ count = length-kept_down c.keep_heads.new.scratch count in
-    answered_as s _ _ _ _ (ap (at_end b c.args.list (list_made room top (reverse hs) c.args.tail)) ends ∙ ap (λ l. list_made room top l c.args.tail) (sym kept) ∙ list_fits room top ks c.args.tail (omega arith))
-    (record { says = ap (λ w. Value w (cells top ks c.args.tail)) c.push_kept.ensures.word; pushes = c.push_kept.ensures.store })
+    made_so c.args.heap.now _ _ _ _ _ (ap (at_end (built_in 40) c.args.list (list_made room top (reverse hs) c.args.tail)) ends ∙ ap (λ l. list_made room top l c.args.tail) (sym kept) ∙ list_fits room top ks c.args.tail (omega arith))
+    c.push_kept.ensures.word c.push_kept.ensures.pushed

@@ -1,12 +1,14 @@
-use Rattle.std.proofs.Common.{◌≡◌, ℕ, ◌+◌, ◌*◌, ◌/◌, ◌<◌, ◌≤◌, List, [], ◌∷◌, length, refl, sym, ap, subst, ◌∙◌, arith}
+use Rattle.std.proofs.Common.{◌≡◌, ℕ, ◌+◌, ◌<◌, List, [], ◌∷◌, length, sym, ap, subst, ◌∙◌, arith}
 use Rattle.tagged_words.proofs.SeenLaws.{something_seen}
 use Rattle.tagged_words.specs.Look.{address_end}
 use Rattle.tagged_words.specs.Store.{Store}
-use Rattle.tagged_words.specs.Word.{header_word}
-use Rattle.prim_gates.proofs.Chains.{chained, chain_kept, headed, length-heads_by, tuple_fits, answered_as}
+use Rattle.prim_gates.proofs.Chains.{chained, chain_kept, length-heads_by, tuple_fits}
+use Rattle.prim_gates.proofs.Growing.{made_so, headed}
+use Rattle.prim_gates.proofs.Ranges.{built_in}
+use Rattle.prim_gates.specs.Said.{HasPushed}
 use Rattle.prim_gates.specs.Chain.{heads_by, IsChain}
 use Rattle.prim_gates.specs.Ended.{ended}
-use Rattle.prim_gates.specs.Reply.{Value, pushed, tuple_made}
+use Rattle.prim_gates.specs.Reply.{pushed, tuple_made}
 use Rattle.prim_gates.specs.Shapes.{heads, end_of, at_end, Proper}
 use Rattle.prim_gates.proofs.lists.list_to_tuple.Goals as goal
 
@@ -15,10 +17,10 @@ push_elements_of-requires-clause-there g c =
     let s : Store = (g.H.Words.store c.args.heap.now) in
     let seen = something_seen s c.args.atoms.now address_end c.args.list in
     let chain : IsChain s c.args.list c.walk-walked.result.count = subst (IsChain s c.args.list) (sym (c.walk-walked.ensures.count seen.0 seen.1)) (chained s c.args.atoms.now address_end c.args.list seen.0 seen.1).0 in
-    subst (λ z. IsChain z c.args.list c.walk-walked.result.count) (sym c.push_word.ensures.store) (chain_kept s (c.header.result ∷ []) c.args.list c.walk-walked.result.count chain).0
+    subst (λ z. IsChain z c.args.list c.walk-walked.result.count) (sym c.push_word.ensures.stored) (chain_kept s (c.header.result ∷ []) c.args.list c.walk-walked.result.count chain).0
 
 pub returns-else-walked-left : goal.returns-else-walked-left
-returns-else-walked-left g c = λ b v fails h.
+returns-else-walked-left g c = λ v y z h.
     let s : Store = (g.H.Words.store c.args.heap.now) in
     let room : ℕ = (g.H.HeapWords.room c.args.heap.now) in
     let top : ℕ = (g.H.HeapWords.end c.args.heap.now) in
@@ -33,9 +35,7 @@ returns-else-walked-left g c = λ b v fails h.
     let space : c.left.result ≡ room = c.left.ensures in
     let fits : count < c.left.result = c.if-walked-left.false in
     let size : length hs ≡ count = length-heads_by s c.args.list count in
-    let now : heads_by (g.H.Words.store c.push_word.new.heap) c.args.list count ≡ hs = ap (λ z. heads_by z c.args.list count) c.push_word.ensures.store ∙ kept in
-    answered_as s _ _ _ _ (ap (at_end b c.args.list (tuple_made room top (heads s c.args.list v))) ends ∙ ap (tuple_made room top) same ∙ tuple_fits room top hs (omega arith))
-    (record {
-      says = ap (λ w. Value (w + 2) (header_word (length hs) ∷ hs)) c.top-cell.ensures;
-      pushes = headed s (g.H.Words.store c.push_word.new.heap) _ c.header.result count hs c.push_word.ensures.store c.header.ensures.word size (c.push_elements_of.ensures ∙ ap (pushed (g.H.Words.store c.push_word.new.heap)) now);
-    })
+    let now : heads_by (g.H.Words.store c.push_word.new.heap) c.args.list count ≡ hs = ap (λ z. heads_by z c.args.list count) c.push_word.ensures.stored ∙ kept in
+    made_so c.args.heap.now _ _ _ _ _ (ap (at_end (built_in 41) c.args.list (tuple_made room top (heads s c.args.list v))) ends ∙ ap (tuple_made room top) same ∙ tuple_fits room top hs (omega arith))
+    (ap (λ w. w + 2) c.top-cell.ensures)
+    (headed c.push_word.ensures c.header.ensures.word size (subst (λ ws. HasPushed g.H.HeapWords.Grows g.H.Words.store g.H.HeapWords.room g.H.HeapWords.end c.push_word.new.heap ws c.push_elements_of.new.heap) now c.push_elements_of.ensures))

@@ -1,4 +1,4 @@
-use Rattle.std.proofs.Common.{◌≡◌, ℕ, ◌+◌, ◌<◌, ◌≤◌, ◌^◌, length, [], refl, sym, ap, ◌∙◌, arith}
+use Rattle.std.proofs.Common.{◌+◌, ◌<◌, ◌≤◌, ◌^◌, [], refl, sym, ap, ◌∙◌, arith}
 use Rattle.tagged_words.specs.declared.look.Look.TheVariants as look
 use Rattle.tagged_words.specs.Look.{address_end}
 use Rattle.word_walks.specs.Compared.{found_of, Is}

@@ -1,6 +1,7 @@
-use Rattle.std.proofs.Common.{◌≡◌, ℕ, ◌+◌, ◌-◌, ◌*◌, ◌<◌, ◌≤◌, ◌^◌, List, [], ◌∷◌, length, refl, sym, ap, subst, ◌∙◌, arith}
+use Rattle.std.proofs.Common.{◌≡◌, ◌+◌, ◌-◌, ◌≤◌, ◌∷◌, length, sym, ap, subst, ◌∙◌, arith}
 use Rattle.tagged_words.specs.Store.{Store}
-use Rattle.prim_gates.proofs.Chains.{chain_first, chain_rest, heads_first, heads_none, there_written, read_written, writing_begins, writing_goes_on, writing_ends, length-heads_by, IsWriting}
+use Rattle.prim_gates.proofs.Chains.{chain_first, chain_rest, heads_first, length-heads_by}
+use Rattle.prim_gates.proofs.Growing.{there_still, read_still, writing_begins, writing_goes_on, IsWriting}
 use Rattle.prim_gates.specs.Chain.{heads_by, IsChain}
 use Rattle.prim_gates.specs.Reply.{read}
 use Rattle.prim_gates.proofs.lists.push_elements_of.Goals as goal
@@ -9,25 +10,24 @@ pub cells-init : goal.cells-init
 cells-init g c =
     let size : length (heads_by (g.H.Words.store c.args.heap.now) c.args.list c.args.count) ≡ c.args.count = length-heads_by (g.H.Words.store c.args.heap.now) c.args.list c.args.count in
     let room : c.args.count ≤ g.H.HeapWords.room c.args.heap.now = c.requires.room in
-    record { writing = writing_begins (g.H.Words.store c.args.heap.now) (g.H.HeapWords.room c.args.heap.now) (heads_by (g.H.Words.store c.args.heap.now) c.args.list c.args.count) (omega arith); chain = c.requires.there }
+    record { writing = writing_begins c.args.heap.now (heads_by (g.H.Words.store c.args.heap.now) c.args.list c.args.count) (omega arith); chain = c.requires.there }
 
 pub word_there-head-requires : goal.word_there-head-requires
-word_there-head-requires g c = there_written (g.H.Words.store c.args.heap.now) (heads_by (g.H.Words.store c.args.heap.now) c.args.list c.args.count) (g.H.Words.store c.cells.heap) (g.H.HeapWords.room c.cells.heap) (heads_by (g.H.Words.store c.args.heap.now) c.cells.word c.cells.left) c.cells.invariant.writing (c.cells.word - 1) (chain_first (g.H.Words.store c.args.heap.now) c.cells.word c.cells.left (omega arith) c.cells.invariant.chain).head
+word_there-head-requires g c = there_still c.cells.invariant.writing.done (c.cells.word - 1) (chain_first (g.H.Words.store c.args.heap.now) c.cells.word c.cells.left (omega arith) c.cells.invariant.chain).head
 
 pub word_there-word-requires : goal.word_there-word-requires
-word_there-word-requires g c = there_written (g.H.Words.store c.args.heap.now) (heads_by (g.H.Words.store c.args.heap.now) c.args.list c.args.count) (g.H.Words.store c.cells.heap) (g.H.HeapWords.room c.cells.heap) (heads_by (g.H.Words.store c.args.heap.now) c.cells.word c.cells.left) c.cells.invariant.writing (c.cells.word + 3) (chain_first (g.H.Words.store c.args.heap.now) c.cells.word c.cells.left (omega arith) c.cells.invariant.chain).tail
+word_there-word-requires g c = there_still c.cells.invariant.writing.done (c.cells.word + 3) (chain_first (g.H.Words.store c.args.heap.now) c.cells.word c.cells.left (omega arith) c.cells.invariant.chain).tail
 
 pub cells-preserved : goal.cells-preserved
 cells-preserved g c =
     let s : Store = (g.H.Words.store c.args.heap.now) in
     let here = chain_first s c.cells.word c.cells.left (omega arith) c.cells.invariant.chain in
     let less : c.cells.left ≡ c.cells.left - 1 + 1 = omega arith in
-    let head : read s (c.cells.word - 1) ≡ c.word_there-head.result = sym (c.word_there-head.ensures.read ∙ read_written (g.H.Words.store c.args.heap.now) (heads_by (g.H.Words.store c.args.heap.now) c.args.list c.args.count) (g.H.Words.store c.cells.heap) (g.H.HeapWords.room c.cells.heap) (heads_by (g.H.Words.store c.args.heap.now) c.cells.word c.cells.left) c.cells.invariant.writing (c.cells.word - 1) here.head) in
-    let next : read s (c.cells.word + 3) ≡ c.word_there-word.result = sym (c.word_there-word.ensures.read ∙ read_written (g.H.Words.store c.args.heap.now) (heads_by (g.H.Words.store c.args.heap.now) c.args.list c.args.count) (g.H.Words.store c.cells.heap) (g.H.HeapWords.room c.cells.heap) (heads_by (g.H.Words.store c.args.heap.now) c.cells.word c.cells.left) c.cells.invariant.writing (c.cells.word + 3) here.tail) in
+    let head : read s (c.cells.word - 1) ≡ c.word_there-head.result = sym (c.word_there-head.ensures.read ∙ read_still c.cells.invariant.writing.done (c.cells.word - 1) here.head) in
+    let next : read s (c.cells.word + 3) ≡ c.word_there-word.result = sym (c.word_there-word.ensures.read ∙ read_still c.cells.invariant.writing.done (c.cells.word + 3) here.tail) in
     let rest : heads_by s c.cells.word c.cells.left ≡ c.word_there-head.result ∷ heads_by s c.word_there-word.result (c.cells.left - 1) =
     heads_first s c.cells.word c.cells.left (c.cells.left - 1) less ∙ ap (λ x. x ∷ heads_by s (read s (c.cells.word + 3)) (c.cells.left - 1)) head ∙ ap (λ w. c.word_there-head.result ∷ heads_by s w (c.cells.left - 1)) next in
     record {
-      writing = writing_goes_on (g.H.Words.store c.args.heap.now) (heads_by (g.H.Words.store c.args.heap.now) c.args.list c.args.count) (g.H.Words.store c.cells.heap) (g.H.HeapWords.room c.cells.heap) c.word_there-head.result (heads_by s c.word_there-word.result (c.cells.left - 1)) _ _
-          (subst (IsWriting (g.H.Words.store c.args.heap.now) (heads_by (g.H.Words.store c.args.heap.now) c.args.list c.args.count) (g.H.Words.store c.cells.heap) (g.H.HeapWords.room c.cells.heap)) rest c.cells.invariant.writing) c.push_word.ensures.store c.push_word.ensures.room;
+      writing = writing_goes_on (subst (IsWriting g.H.HeapWords.Grows g.H.Words.store g.H.HeapWords.room g.H.HeapWords.end c.args.heap.now (heads_by s c.args.list c.args.count) c.cells.heap) rest c.cells.invariant.writing) c.push_word.ensures;
       chain = subst (λ w. IsChain s w (c.cells.left - 1)) next (chain_rest s c.cells.word c.cells.left (c.cells.left - 1) less c.cells.invariant.chain);
     }

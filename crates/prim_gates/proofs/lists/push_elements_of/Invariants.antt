@@ -1,10 +1,11 @@
-use Rattle.prim_gates.proofs.Chains.{IsWriting}
+use Rattle.prim_gates.proofs.Growing.{IsWriting}
 use Rattle.prim_gates.specs.Chain.{heads_by, IsChain}
 use Rattle.prim_gates.proofs.lists.push_elements_of.Given as goal
 
 abbrev pub invariant-cells : goal.invariant-cells
 invariant-cells g l = record {
-  writing : IsWriting (g.H.Words.store l.initial.heap) (heads_by (g.H.Words.store l.initial.heap) l.list l.count) (g.H.Words.store l.heap) (g.H.HeapWords.room l.heap) (heads_by (g.H.Words.store l.initial.heap) l.word l.left);
+  writing : IsWriting g.H.HeapWords.Grows g.H.Words.store g.H.HeapWords.room g.H.HeapWords.end l.initial.heap (heads_by (g.H.Words.store l.initial.heap) l.list l.count)
+      l.heap (heads_by (g.H.Words.store l.initial.heap) l.word l.left);
   chain : IsChain (g.H.Words.store l.initial.heap) l.word l.left;
 }
 

@@ -1,11 +1,11 @@
-use Rattle.prim_gates.proofs.Chains.{IsPushing}
+use Rattle.prim_gates.proofs.Growing.{IsPushing}
 use Rattle.prim_gates.specs.Chain.{heads_by, IsChain}
 use Rattle.prim_gates.proofs.lists.push_heads.Given as goal
 
 abbrev pub invariant-cells : goal.invariant-cells
 invariant-cells g l = record {
-  pushing : IsPushing (g.H.Words.store l.initial.heap) (g.H.HeapWords.end l.initial.heap) (heads_by (g.H.Words.store l.initial.heap) l.list l.count) l.end
-      (g.H.Words.store l.heap) (g.H.HeapWords.end l.heap) (g.H.HeapWords.room l.heap) l.tail (heads_by (g.H.Words.store l.initial.heap) l.word l.left);
+  pushing : IsPushing g.H.HeapWords.Grows g.H.Words.store g.H.HeapWords.room g.H.HeapWords.end l.initial.heap (heads_by (g.H.Words.store l.initial.heap) l.list l.count) l.end
+      l.heap l.tail (heads_by (g.H.Words.store l.initial.heap) l.word l.left);
   chain : IsChain (g.H.Words.store l.initial.heap) l.word l.left;
 }
 

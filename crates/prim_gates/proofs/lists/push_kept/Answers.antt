@@ -1,5 +1,5 @@
-use Rattle.std.proofs.Common.{◌≡◌, ℕ, ◌+◌, ◌-◌, ◌*◌, ◌<◌, ◌≤◌, List, [], ◌∷◌, length, refl, sym, ap, subst, ◌∙◌, arith}
-use Rattle.prim_gates.proofs.Chains.{pushing_begins, pushing_goes_on, IsPushing}
+use Rattle.std.proofs.Common.{◌≡◌, ◌+◌, ◌-◌, ◌*◌, ◌≤◌, ◌∷◌, length, subst, arith}
+use Rattle.prim_gates.proofs.Growing.{pushing_begins, pushing_goes_on, IsPushing}
 use Rattle.prim_gates.proofs.Kept.{kept_first, length-kept_down}
 use Rattle.prim_gates.specs.Chain.{kept_down}
 use Rattle.prim_gates.proofs.lists.push_kept.Goals as goal
@@ -8,7 +8,7 @@ pub cells-init : goal.cells-init
 cells-init g c =
     let size : length (kept_down c.args.scratch.now c.args.count) ≡ c.args.count = length-kept_down c.args.scratch.now c.args.count in
     let room : 2 * c.args.count ≤ g.H.HeapWords.room c.args.heap.now = c.requires.room in
-    record { pushing = pushing_begins (g.H.Words.store c.args.heap.now) (g.H.HeapWords.end c.args.heap.now) (g.H.HeapWords.room c.args.heap.now) c.args.end (kept_down c.args.scratch.now c.args.count) (omega arith); within = omega arith }
+    record { pushing = pushing_begins c.args.heap.now (kept_down c.args.scratch.now c.args.count) c.args.end (omega arith); within = omega arith }
 
 pub push_cell-tail-requires : goal.push_cell-tail-requires
 push_cell-tail-requires g c =
@@ -22,7 +22,7 @@ cells-preserved g c =
     let less : c.cells.left ≡ c.cells.left - 1 + 1 = omega arith in
     let rest : kept_down c.args.scratch.now c.cells.left ≡ c.kept-head.result ∷ kept_down c.args.scratch.now (c.cells.left - 1) = kept_first c.args.scratch.now c.cells.left (c.cells.left - 1) c.kept-head.result less c.kept-head.ensures in
     record {
-      pushing = pushing_goes_on (g.H.Words.store c.args.heap.now) (g.H.HeapWords.end c.args.heap.now) (kept_down c.args.scratch.now c.args.count) c.args.end (g.H.Words.store c.cells.heap) (g.H.HeapWords.end c.cells.heap) (g.H.HeapWords.room c.cells.heap) c.cells.tail c.kept-head.result (kept_down c.args.scratch.now (c.cells.left - 1)) _ _ _ _
-          (subst (IsPushing (g.H.Words.store c.args.heap.now) (g.H.HeapWords.end c.args.heap.now) (kept_down c.args.scratch.now c.args.count) c.args.end (g.H.Words.store c.cells.heap) (g.H.HeapWords.end c.cells.heap) (g.H.HeapWords.room c.cells.heap) c.cells.tail) rest c.cells.invariant.pushing) c.push_cell-tail.ensures.store c.push_cell-tail.ensures.top c.push_cell-tail.ensures.room c.push_cell-tail.ensures.word;
+      pushing = pushing_goes_on (subst (IsPushing g.H.HeapWords.Grows g.H.Words.store g.H.HeapWords.room g.H.HeapWords.end c.args.heap.now (kept_down c.args.scratch.now c.args.count) c.args.end c.cells.heap c.cells.tail) rest c.cells.invariant.pushing)
+          c.push_cell-tail.ensures.pushed c.push_cell-tail.ensures.word;
       within = omega arith;
     }

@@ -1,8 +1,7 @@
-use Rattle.std.proofs.Common.{◌≡◌, ℕ, ◌+◌, ◌*◌, ◌<◌, ◌≤◌, ◌^◌, sym, ap, subst, ◌∙◌, arith}
+use Rattle.std.proofs.Common.{◌+◌, ◌<◌, ◌≤◌, sym, ◌∙◌, arith}
 use Rattle.tagged_words.specs.declared.look.Look.TheVariants as look
-use Rattle.tagged_words.specs.Store.{Store}
 use Rattle.prim_gates.proofs.ListWalks.{walk_begins, walk_goes_on, walk_count, walk_end, another_last, another_end}
-use Rattle.prim_gates.proofs.Seeing.{cons_second, cons_low, cons_end}
+use Rattle.prim_gates.proofs.Seeing.{cons_second, cons_low}
 use Rattle.prim_gates.proofs.lists.walk.Goals as goal
 
 pub cells-init : goal.cells-init

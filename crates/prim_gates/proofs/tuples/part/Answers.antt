@@ -1,6 +1,5 @@
-use Rattle.std.proofs.Common.{◌≡◌, ℕ, ◌+◌, ◌-◌, true, Some, is_some, [], inl, inr, ap, sym, subst, ◌∙◌, arith}
+use Rattle.std.proofs.Common.{◌≡◌, ℕ, ◌+◌, ◌-◌, true, is_some, [], inl, inr, ap, sym, subst, ◌∙◌, arith}
 use Rattle.tagged_words.specs.Look.{address_end}
-use Rattle.tagged_words.specs.Seen.{Cons}
 use Rattle.tagged_words.specs.Store.{Store, word_of}
 use Rattle.prim_gates.proofs.Seeing.{cons_first, cons_second, cons_is, cons_seen}
 use Rattle.prim_gates.specs.Reply.{read, Value}

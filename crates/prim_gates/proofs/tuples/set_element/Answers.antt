@@ -1,57 +1,18 @@
-use Rattle.std.proofs.Common.{◌≡◌, ℕ, ◌+◌, ◌*◌, ◌<◌, ◌≤◌, true, pos, w32, is_some, List, [], ◌∷◌, length, refl, sym, ap, subst, ◌∙◌, arith}
+use Rattle.std.proofs.Common.{w32, rules, sym, subst, ◌∙◌}
 use Rattle.std.proofs.lemmas.Int.{to_z-of_z}
+use mir.Val.{SFits}
+use Rattle.prim_gates.proofs.Seeing.{small_seen}
+use Rattle.prim_gates.specs.Gate.{prim}
+use Rattle.prim_gates.specs.Said.{Answered}
+use Rattle.prim_gates.specs.Shallow.{argument}
 use Rattle.tagged_words.specs.Look.{address_end}
-use Rattle.tagged_words.specs.Store.{Store, word_of}
-use Rattle.tagged_words.specs.Word.{header_word}
-use Rattle.prim_gates.proofs.Chains.{with_element_is, length-with_place, place_kept, still_there, headed, tuple_full, tuple_fits, answered_as, pushed_none}
-use Rattle.prim_gates.proofs.Seeing.{tuple_word}
-use Rattle.prim_gates.specs.Chain.{with_place}
-use Rattle.prim_gates.specs.Reply.{Value, pushed}
-use Rattle.prim_gates.specs.Shapes.{with_element}
+use Rattle.tagged_words.specs.Seen.{Int}
 use Rattle.prim_gates.proofs.tuples.set_element.Goals as goal
 
-pub returns-then-count-left : goal.returns-then-count-left
-returns-then-count-left g c = λ b v fails h.
-    let s : Store = (g.H.Words.store c.args.heap.now) in
-    let room : ℕ = (g.H.HeapWords.room c.args.heap.now) in
-    let top : ℕ = (g.H.HeapWords.end c.args.heap.now) in
-    let n : ℕ = c.in-Tuple.count in
-    let place : ℕ = c.without_sign-place.result in
-    let index : pos place ≡ c.args.index = c.without_sign-place.ensures.same ∙ to_z-of_z w32 c.args.index c.ranges.index in
-    let low : place ≤ n = c.if-place-count.false in
-    let space : c.left.result ≡ room = c.left.ensures in
-    let ws : List ℕ = with_place s c.in-Tuple.at 1 n place c.args.new in
-    let size : length ws ≡ n = length-with_place s c.in-Tuple.at place c.args.new 1 n in
-    let full : c.left.result ≤ n = c.if-count-left.true in
-    answered_as s s _ _ _ (ap (λ i. with_element s b room top i c.args.first c.args.tuple v c.args.new) (sym index) ∙ with_element_is s c.args.atoms.now b room top place c.args.first c.args.tuple c.in-Tuple.at n c.args.new v c.without_sign-place.ensures.some low (sym c.look_at.ensures ∙ c.in-Tuple.is) h
-    ∙ tuple_full room top ws (omega arith))
-    (record { says = refl; pushes = pushed_none s })
-
-pub push_with-requires-clause-there : goal.push_with-requires-clause-there
-push_with-requires-clause-there g c = λ k low.
-    let s : Store = (g.H.Words.store c.args.heap.now) in
-    subst (λ z. is_some (word_of z (c.in-Tuple.at + 4 * k)) ≡ true) (sym c.push_word.ensures.store)
-    (still_there s (c.header.result ∷ []) (c.in-Tuple.at + 4 * k) (tuple_word s c.args.atoms.now address_end c.args.tuple c.in-Tuple.at c.in-Tuple.count k (sym c.look_at.ensures ∙ c.in-Tuple.is) low))
-
-pub returns-else-count-left : goal.returns-else-count-left
-returns-else-count-left g c = λ b v fails h.
-    let s : Store = (g.H.Words.store c.args.heap.now) in
-    let room : ℕ = (g.H.HeapWords.room c.args.heap.now) in
-    let top : ℕ = (g.H.HeapWords.end c.args.heap.now) in
-    let n : ℕ = c.in-Tuple.count in
-    let place : ℕ = c.without_sign-place.result in
-    let index : pos place ≡ c.args.index = c.without_sign-place.ensures.same ∙ to_z-of_z w32 c.args.index c.ranges.index in
-    let low : place ≤ n = c.if-place-count.false in
-    let space : c.left.result ≡ room = c.left.ensures in
-    let ws : List ℕ = with_place s c.in-Tuple.at 1 n place c.args.new in
-    let size : length ws ≡ n = length-with_place s c.in-Tuple.at place c.args.new 1 n in
-    let fits : n < c.left.result = c.if-count-left.false in
-    let kept : with_place (g.H.Words.store c.push_word.new.heap) c.in-Tuple.at 1 n place c.args.new ≡ ws =
-    ap (λ z. with_place z c.in-Tuple.at 1 n place c.args.new) c.push_word.ensures.store
-    ∙ place_kept s (c.header.result ∷ []) c.in-Tuple.at place c.args.new 1 n (λ j less. tuple_word s c.args.atoms.now address_end c.args.tuple c.in-Tuple.at n j (sym c.look_at.ensures ∙ c.in-Tuple.is) less) in
-    answered_as s _ _ _ _ (ap (λ i. with_element s b room top i c.args.first c.args.tuple v c.args.new) (sym index) ∙ with_element_is s c.args.atoms.now b room top place c.args.first c.args.tuple c.in-Tuple.at n c.args.new v c.without_sign-place.ensures.some low (sym c.look_at.ensures ∙ c.in-Tuple.is) h
-    ∙ tuple_fits room top ws (omega arith))
-    (record {
-      says = ap (λ w. Value (w + 2) (header_word (length ws) ∷ ws)) c.top-cell.ensures;
-      pushes = headed s (g.H.Words.store c.push_word.new.heap) _ c.header.result n ws c.push_word.ensures.store c.header.ensures.word size (c.push_with.ensures ∙ ap (pushed (g.H.Words.store c.push_word.new.heap)) kept);
-    })
+pub returns-in-Small : goal.returns-in-Small
+returns-in-Small g c = λ x y z h.
+    let fits : SFits w32 c.in-Small.index = search rules in
+    subst (λ v. Answered g.H.HeapWords.Grows g.H.Words.store g.H.HeapWords.room g.H.HeapWords.end c.args.heap.now c.set_at.result (λ m. prim 39 m (argument c.args.a v) (argument c.args.b y) (argument c.args.c z)) c.set_at.new.heap)
+    (sym (small_seen (g.H.Words.store c.args.heap.now) c.args.atoms.now address_end c.args.a c.in-Small.index x (sym c.look_at.ensures ∙ c.in-Small.is) h.0))
+    (subst (λ i. Answered g.H.HeapWords.Grows g.H.Words.store g.H.HeapWords.room g.H.HeapWords.end c.args.heap.now c.set_at.result (λ m. prim 39 m (argument c.args.a (Int i)) (argument c.args.b y) (argument c.args.c z)) c.set_at.new.heap)
+    (to_z-of_z w32 c.in-Small.index fits) (c.set_at.ensures y z h.1.0))
