@@ -1,0 +1,6 @@
+pub mod Growing
+pub mod Turns
+pub mod Counted
+pub mod Sound
+pub mod Ready
+pub mod Holding

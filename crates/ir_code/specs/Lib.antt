@@ -1,0 +1,6 @@
+pub mod Mentions
+pub mod Shown
+pub mod Laying
+pub mod Constants
+pub mod Room
+pub mod Laws
