@@ -33,7 +33,7 @@ fn list(alloc: Global, integers: u32) -> Result<Term, AllocError> {
 }
 
 /// An empty heap with room for so many lists.
-fn heap(alloc: Global, integers: u32, lists: u32) -> Result<HandWords> {
+pub(crate) fn heap(alloc: Global, integers: u32, lists: u32) -> Result<HandWords> {
     let words = u64::from(integers)
         .saturating_mul(u64::from(lists))
         .saturating_mul(2);
@@ -67,7 +67,12 @@ fn lists_laid(alloc: Global, integers: u32, times: u32) -> Result<String> {
 }
 
 /// The word of a list that is laid at the top of the heap.
-fn lay_list(alloc: Global, words: &mut HandWords, atoms: &Atoms, integers: u32) -> Result<u32> {
+pub(crate) fn lay_list(
+    alloc: Global,
+    words: &mut HandWords,
+    atoms: &Atoms,
+    integers: u32,
+) -> Result<u32> {
     let term = list(alloc, integers)?;
     if !can_be_laid(&term, atoms) {
         bail!("the list can't be laid");

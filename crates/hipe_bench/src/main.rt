@@ -4,6 +4,7 @@
 
 mod blocks;
 mod checking;
+mod gates;
 mod images;
 mod lists;
 mod memory;
@@ -75,6 +76,9 @@ fn measured<F: Files>(alloc: Global, files: &mut F, words: &[String]) -> Result<
         "words_of_terms" => {
             lists::lists_walked(alloc, word(words, 1)?, number(words, 2)?, number(words, 3)?)
         }
+        "built_ins" => {
+            gates::gates_passed(alloc, word(words, 1)?, number(words, 2)?, number(words, 3)?)
+        }
         _ => bail!("no measure has this name"),
     }
 }
@@ -109,6 +113,9 @@ fn all<F: Files>(alloc: Global, files: &mut F) -> Result<String> {
 fn add_lists(alloc: Global, lines: &mut String) -> Result<()> {
     for measure in ["lay", "compare", "compare_same", "print"] {
         add(lines, lists::lists_walked(alloc, measure, 1000, 2))?;
+    }
+    for measure in ["sum", "less", "append", "reverse"] {
+        add(lines, gates::gates_passed(alloc, measure, 1000, 3))?;
     }
     Ok(())
 }
