@@ -32,7 +32,7 @@ pub pushed_twice : (s : Store) (xs ys : List ℕ) → pushed (pushed s xs) ys �
 pushed_twice s xs ys = ap (λ ws. record s { heap = ws }) (append_later s.heap xs ys)
 
 -- a word that is there stays, and is read the same
-some_is : (o : Option ℕ) → is_some o ≡ true → (x : ℕ) × (o ≡ Some x)
+pub some_is : (o : Option ℕ) → is_some o ≡ true → (x : ℕ) × (o ≡ Some x)
 some_is (Some x) e = (x, refl)
 some_is None e = absurd cc
 

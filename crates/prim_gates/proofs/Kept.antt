@@ -1,13 +1,16 @@
 -- The heads of a list that are kept, and taken from the last one down.
 use Rattle.std.proofs.Common.{◌≡◌, ℕ, zero, suc, ◌+◌, ◌-◌, ◌<◌, ◌≤◌, ◌++◌, ◌⊎◌, inl, inr, Some, List, [], ◌∷◌, length, reverse, slice_get, slice_set, refl, ap, sym, subst, ◌∙◌, arith}
 use mathlib.Core.List.{reverse_aux}
+use Rattle.tagged_words.specs.declared.look.Look.TheVariants as look
+use Rattle.tagged_words.specs.Look.{address_end, look_of}
 use Rattle.tagged_words.specs.Seen.{Seen, Int, Atom, Nil, Cons, Tuple, Bad, Sees}
-use Rattle.tagged_words.specs.Store.{Store, words_in}
+use Rattle.tagged_words.specs.Store.{Store, word_of, words_in}
 use Rattle.word_walks.proofs.Ordinals.{higher, few}
 use Rattle.word_walks.specs.Ordinal.{ordinal}
-use Rattle.prim_gates.proofs.Chains.{append_none, append_later, heads_first, chain_rest}
-use Rattle.prim_gates.proofs.Seeing.{cons_low, cons_is}
-use Rattle.prim_gates.specs.Chain.{heads_by, kept_down, IsChain}
+use Rattle.prim_gates.proofs.Chains.{append_none, append_later, some_is}
+use Rattle.prim_gates.proofs.ListWalks.{IsRest, IsWalk, walk_begins, walk_goes_on}
+use Rattle.prim_gates.proofs.Seeing.{cons_first, cons_low, cons_is, cons_seen}
+use Rattle.prim_gates.specs.Chain.{kept_down}
 use Rattle.prim_gates.specs.Reply.{read, word_or_none}
 use Rattle.prim_gates.specs.Shapes.{heads}
 
@@ -53,43 +56,46 @@ below_or (suc k) (suc i) h = one (below_or k i (omega arith)) where
   one (inl low) = inl (omega arith)
   one (inr e) = inr (ap suc e)
 
--- the heads of the first cells are kept; the others are still ahead
-pub record IsKeeping (s : Store) (list count : ℕ) (scratch : List ℕ) (word entry : ℕ) : Type 0 where
-  pub chain : IsChain s word (count - entry)
-  pub ahead : (k : ℕ) → slice_get (heads_by s list count) (entry + k) ≡ slice_get (heads_by s word (count - entry)) k
-  pub kept : (k : ℕ) → k < entry → slice_get scratch k ≡ slice_get (heads_by s list count) k
-  pub within : entry ≤ count
+-- a walk along a list that keeps the heads of the cells behind it
+module _ (s : Store) (names : List (List ℕ)) where
+  pub record IsKeeping (w limit word count : ℕ) (scratch : List ℕ) : Type 0 where
+    pub walk : IsWalk s names w limit word count
+    pub low : count + ordinal s limit ≤ words_in s
+    pub kept : (v : Seen) → Sees s names address_end w v → (k : ℕ) → k < count → slice_get scratch k ≡ slice_get (heads s w v) k
 
-pub keeping_begins : (s : Store) (list count : ℕ) (scratch : List ℕ) → IsChain s list count → IsKeeping s list count scratch list 0
-keeping_begins s list count scratch chain =
-    let all : count ≡ count - 0 = omega arith in
-    record {
-      chain = subst (IsChain s list) all chain;
-      ahead = λ k. let same : 0 + k ≡ k = omega arith in ap (slice_get (heads_by s list count)) same ∙ ap (λ n. slice_get (heads_by s list n) k) all;
-      kept = λ k low. absurd (omega arith);
-      within = omega arith;
-    }
+  pub begins_keeping : (w : ℕ) (scratch : List ℕ) → IsKeeping w address_end w 0 scratch
+  begins_keeping w scratch =
+      let all : ordinal s address_end ≤ words_in s = few s address_end in
+      record { walk = walk_begins s names w; low = omega arith; kept = λ v h k low. absurd (omega arith) }
 
-pub keeping_goes_on : (s : Store) (list count : ℕ) (scratch : List ℕ) (word entry head next : ℕ) → IsKeeping s list count scratch word entry → entry < count → entry < length scratch
-    → head ≡ read s (word - 1) → next ≡ read s (word + 3) → IsKeeping s list count (slice_set scratch entry head) next (entry + 1)
-keeping_goes_on s list count scratch word entry head next p more space is later =
-    let less : count - entry ≡ count - (entry + 1) + 1 = omega arith in
-    let rest : heads_by s word (count - entry) ≡ head ∷ heads_by s next (count - (entry + 1)) =
-    heads_first s word (count - entry) (count - (entry + 1)) less ∙ ap (λ x. x ∷ heads_by s (read s (word + 3)) (count - (entry + 1))) (sym is) ∙ ap (λ w. head ∷ heads_by s w (count - (entry + 1))) (sym later) in
-    let here : entry + 0 ≡ entry = omega arith in
-    let mine : slice_get (heads_by s list count) entry ≡ Some head = ap (slice_get (heads_by s list count)) (sym here) ∙ p.ahead 0 ∙ ap (λ l. slice_get l 0) rest in
-    record {
-      chain = subst (λ w. IsChain s w (count - (entry + 1))) (sym later) (chain_rest s word (count - entry) (count - (entry + 1)) less p.chain);
-      ahead = λ k. let same : entry + 1 + k ≡ entry + suc k = omega arith in ap (slice_get (heads_by s list count)) same ∙ p.ahead (suc k) ∙ ap (λ l. slice_get l (suc k)) rest;
-      kept = λ k low. elim (below_or k entry low) [
-        | inl less ↦ set_other scratch entry head k less ∙ p.kept k less
-        | inr e ↦ ap (slice_get (slice_set scratch entry head)) e ∙ set_here scratch entry head space ∙ sym mine ∙ ap (slice_get (heads_by s list count)) (sym e)
-      ];
-      within = omega arith;
-    }
+  -- a cell below the limit is one of those that are still to come
+  pub more_ahead : (w limit word count at : ℕ) (scratch : List ℕ) → look_of s names limit word ≡ look.Cons at → IsKeeping w limit word count scratch → count + 1 + ordinal s at ≤ words_in s
+  more_ahead w limit word count at scratch e k =
+      let x = some_is (word_of s at) (cons_first s names limit word at e) in
+      let up : ordinal s at + 1 ≤ ordinal s limit = higher s at x.0 limit x.1 (cons_low s names limit word at e) in
+      let low : count + ordinal s limit ≤ words_in s = k.low in
+      omega arith
 
-pub keeping_ends : (s : Store) (list count : ℕ) (scratch : List ℕ) (word entry : ℕ) → count ≤ entry → IsKeeping s list count scratch word entry → (k : ℕ) → k < count → slice_get scratch k ≡ slice_get (heads_by s list count) k
-keeping_ends s list count scratch word entry end p k low = p.kept k (omega arith)
+  next_head : (w limit word count at : ℕ) (v : Seen) → look_of s names limit word ≡ look.Cons at → IsRest s names w v limit word count → slice_get (heads s w v) count ≡ Some (read s at)
+  next_head w limit word count at v e r =
+      let c = cons_seen s names limit word at r.rest e r.seen in
+      let here : word ≡ at + 1 = cons_is s names limit word at e in
+      let place : word - 1 ≡ at = omega arith in
+      let same : count + 0 ≡ count = omega arith in
+      ap (slice_get (heads s w v)) (sym same) ∙ r.ahead 0 ∙ ap (λ u. slice_get (heads s word u) 0) c.is ∙ ap (λ p. Some (read s p)) place
+
+  pub keeps_on : (w limit word count at head next : ℕ) (scratch : List ℕ) → look_of s names limit word ≡ look.Cons at → head ≡ read s at → next ≡ read s (at + 4) → count < length scratch → IsKeeping w limit word count scratch
+      → IsKeeping w at next (count + 1) (slice_set scratch count head)
+  keeps_on w limit word count at head next scratch e is later space k =
+      let more : count + 1 + ordinal s at ≤ words_in s = more_ahead w limit word count at scratch e k in
+      record {
+        walk = walk_goes_on s names w limit word count at next e later k.walk;
+        low = omega arith;
+        kept = λ v h i below. elim (below_or i count below) [
+          | inl less ↦ set_other scratch count head i less ∙ k.kept v h i less
+          | inr here ↦ ap (slice_get (slice_set scratch count head)) here ∙ set_here scratch count head space ∙ ap Some is ∙ sym (next_head w limit word count at v e (k.walk.rests v h)) ∙ ap (slice_get (heads s w v)) (sym here)
+        ];
+      }
 
 -- what is kept, from the last word down
 pub kept_first : (ws : List ℕ) (n m x : ℕ) → n ≡ m + 1 → slice_get ws m ≡ Some x → kept_down ws n ≡ x ∷ kept_down ws m

@@ -1,5 +1,5 @@
 -- Walks along a list: what is seen of its rest, behind so many cells.
-use Rattle.std.proofs.Common.{◌≡◌, ℕ, ◌+◌, ◌-◌, ◌<◌, ◌≤◌, List, [], ◌∷◌, length, refl, ap, sym, subst, ◌∙◌, arith}
+use Rattle.std.proofs.Common.{◌≡◌, ℕ, ◌+◌, ◌-◌, ◌<◌, ◌≤◌, suc, List, [], ◌∷◌, length, slice_get, refl, ap, sym, subst, ◌∙◌, arith}
 use Rattle.tagged_words.specs.declared.look.Look.{Look}
 use Rattle.tagged_words.specs.declared.look.Look.TheVariants as look
 use Rattle.tagged_words.specs.Look.{look_of, address_end}
@@ -57,6 +57,7 @@ module _ (s : Store) (names : List (List ℕ)) where
     pub rest : Seen
     pub seen : Sees s names limit word rest
     pub many : length (heads s w v) ≡ count + length (heads s word rest)
+    pub ahead : (k : ℕ) → slice_get (heads s w v) (count + k) ≡ slice_get (heads s word rest) k
     pub ends : end_of v ≡ end_of rest
 
   -- a walk has come below a limit, which counts the cells ahead
@@ -65,7 +66,7 @@ module _ (s : Store) (names : List (List ℕ)) where
     pub rests : (v : Seen) → Sees s names address_end w v → IsRest w v limit word count
 
   pub walk_begins : (w : ℕ) → IsWalk w address_end w 0
-  walk_begins w = record { room = omega arith; rests = λ v h. record { rest = v; seen = h; many = omega arith; ends = refl } }
+  walk_begins w = record { room = omega arith; rests = λ v h. record { rest = v; seen = h; many = omega arith; ahead = λ k. let same : 0 + k ≡ k = omega arith in ap (slice_get (heads s w v)) same; ends = refl } }
 
   rest_on : (w : ℕ) (v : Seen) (limit word count at next : ℕ) → look_of s names limit word ≡ look.Cons at → next ≡ read s (at + 4) → IsRest w v limit word count → IsRest w v at next (count + 1)
   rest_on w v limit word count at next e is r =
@@ -80,6 +81,8 @@ module _ (s : Store) (names : List (List ℕ)) where
         rest = c.tail;
         seen = subst (λ z. Sees s names at z c.tail) (sym is) c.tail_seen;
         many = omega arith;
+        ahead = λ k. let behind : count + 1 + k ≡ count + suc k = omega arith in
+            ap (slice_get (heads s w v)) behind ∙ r.ahead (suc k) ∙ ap (λ u. slice_get (heads s word u) (suc k)) c.is ∙ ap (λ l. slice_get l k) same;
         ends = r.ends ∙ ap end_of c.is;
       }
 

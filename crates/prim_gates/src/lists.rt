@@ -228,20 +228,38 @@ pub(crate) fn list_to_tuple<H: HeapWords>(heap: &mut H, atoms: &Atoms, list: u32
     }
 }
 
-/// Keeps the heads of so many cells of a list.
-fn keep_heads<W: Words>(words: &W, list: u32, count: u32, scratch: &mut Scratch)
-    requires there { IsChain (W.store words.now) list count }
-    requires room { count ≤ length scratch.old }
-    ensures kept { (k : ℕ) → k < count → slice_get scratch.new k ≡ slice_get (heads_by (W.store words.now) list count) k }
+/// Goes along a list as `walk` does, and keeps its heads, the first in entry 0.
+fn walk_keeping<W: Words>(words: &W, atoms: &Atoms, w: u32, scratch: &mut Scratch) -> Walked
+    requires room { words_in (W.store words.now) < length scratch.old }
+    ensures count { (v : Seen) → Sees (W.store words.now) atoms.now address_end w v → result.count ≡ length (heads (W.store words.now) w v) }
+    ensures end { (v : Seen) → Sees (W.store words.now) atoms.now address_end w v → ended result.end ≡ end_of v }
+    ensures kept { (v : Seen) → Sees (W.store words.now) atoms.now address_end w v → (k : ℕ) → k < result.count → slice_get scratch.new k ≡ slice_get (heads (W.store words.now) w v) k }
     ensures same { length scratch.new ≡ length scratch.old }
 {
-    let mut word = list;
-    let mut entry = 0;
-    'cells: while entry < count {
-        let head = word_there(words, word - 1);
-        scratch.keep(entry, head);
-        word = word_there(words, word + 3);
-        entry += 1;
+    let mut limit = u32::MAX;
+    let mut word = w;
+    let mut count = 0;
+    'cells: loop {
+        match look_at(words, atoms, limit, word) {
+            Look::Cons(at) => {
+                scratch.keep(count, word_there(words, at));
+                word = word_there(words, at + 4);
+                limit = at;
+                count += 1;
+            }
+            Look::Nil => return Walked {
+                count,
+                end: ListEnd::Proper,
+            },
+            Look::Bad => return Walked {
+                count,
+                end: ListEnd::Bad(word),
+            },
+            _ => return Walked {
+                count,
+                end: ListEnd::Improper,
+            },
+        }
     }
 }
 
@@ -275,13 +293,12 @@ pub(crate) fn append<H: HeapWords>(
         → Answered H.Grows H.store H.room H.end heap.old result (λ m. prim 40 m (argument list v) (argument tail y) z) heap.new }
     ensures same { length scratch.new ≡ length scratch.old }
 {
-    let walked = walk(heap, atoms, list);
+    let walked = walk_keeping(heap, atoms, list, scratch);
     match walked.end {
         ListEnd::Proper => {
             if walked.count > heap.left() / 2 {
                 return PrimAnswer::HeapFull;
             }
-            keep_heads(heap, list, walked.count, scratch);
             PrimAnswer::Value(push_kept(heap, scratch, walked.count, tail))
         }
         ListEnd::Improper => BADARG,

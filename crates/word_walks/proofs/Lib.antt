@@ -12,4 +12,3 @@ pub mod Descents
 pub mod Walking
 pub mod Comparison
 pub mod WholeTerms
-pub mod Keeping

@@ -37,29 +37,39 @@ pub(crate) const BLANK: Row = Row {
     inside: Inside::List,
 };
 
-/// Memory for the walks, 24 bytes an entry, so that they take none. A walk uses one entry at most for each word of the
-/// store, and one more. Between two walks each entry keeps one word for whoever wants it; a walk leaves any word there.
+/// Memory for the walks, 28 bytes an entry, so that they take none. A walk uses one entry at most for each word of the
+/// store, and one more. Between two walks each entry keeps one word for whoever wants it.
 #[derive(Drop)]
 pub struct Scratch {
     pub(crate) rows: Vec<Row>,
+    words: Vec<u32>,
 }
 
 impl Model for Scratch {
-    ghost use Rattle.std.specs.Prelude.{List, ℕ, map};
+    ghost use Rattle.std.specs.Prelude.{List, ℕ, ◌≡◌, length};
 
     ghost Value = { List ℕ };
 
-    ghost view = { λ s. map (λ row. row.left) s.rows.items };
+    ghost view = { λ s. s.words.items };
+
+    ghost invariant = { λ s. length s.rows.items ≡ length s.words.items };
 }
 
 impl Scratch {
     /// So many entries, each of which keeps 0. The one error is want of memory.
-    #[tactic(auto, using(crate::proofs::Keeping::map_replicate))]
     pub fn new(alloc: Global, entries: u32) -> Result<Scratch, AllocError>
         ensures { IfOk result (λ scratch. scratch ≡ replicate entries 0) }
     {
         let rows = vec![in alloc; BLANK; entries as usize]?;
-        Ok(Scratch { rows })
+        let words = vec![in alloc; 0; entries as usize]?;
+        Ok(Scratch { rows, words })
+    }
+
+    /// How many entries there are.
+    pub fn len(&self) -> usize
+        ensures { result ≡ length self.now }
+    {
+        self.words.len()
     }
 
     /// The word that an entry keeps.
@@ -67,15 +77,14 @@ impl Scratch {
         requires { entry < length self.now }
         ensures { slice_get self.now entry ≡ Some result }
     {
-        self.rows[entry as usize].left
+        self.words[entry as usize]
     }
 
     /// Has an entry keep a word.
-    #[tactic(auto, using(crate::proofs::Keeping::map_slice_set))]
     pub fn keep(&mut self, entry: u32, word: u32)
         requires { entry < length self.old }
         ensures { self.new ≡ slice_set self.old entry word }
     {
-        self.rows[entry as usize].left = word;
+        self.words[entry as usize] = word;
     }
 }
