@@ -4,3 +4,5 @@ pub mod Counted
 pub mod Sound
 pub mod Ready
 pub mod Holding
+pub mod Knows
+pub mod Short

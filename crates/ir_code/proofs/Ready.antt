@@ -19,6 +19,7 @@ use Rattle.module_sizes.specs.Counts.{literal_words_in}
 use Rattle.tagged_words.specs.Atoms.{first_atoms}
 use Rattle.tagged_words.specs.Laid.{with_atom, with_atoms}
 use Rattle.term_tree.specs.declared.name.TheConstants.{MOST_CHARACTERS}
+use Rattle.term_tree.specs.IsTerm.{IsTerm}
 use Rattle.term_tree.specs.Name.{is_name, characters_in}
 use Rattle.term_tree.specs.Tree as u
 use Rattle.word_laying.specs.Count.{row_words}
@@ -61,3 +62,11 @@ can_stand ms names all is table are canonical few =
     let smalls : AllByRecursion HasSmalls (literals_of all) = subst (λ a. AllByRecursion HasSmalls (literals_of a)) (sym is) (literals_good ms canonical) in
     let count : row_words 0 (literals_of all) ≡ sum_by literal_words_in ms = ap (λ a. row_words 0 (literals_of a)) is ∙ words-mentions ms in
     all_stand names are (literals_of all) named smalls (omega (arith, count, few))
+
+terms_of : (names : List (List ℕ)) (vs : List u.Tree) → AllByRecursion (CanStand names) vs → AllByRecursion IsTerm vs
+terms_of names [] all = tt
+terms_of names (v ∷ vs) all = (all.0.term, terms_of names vs all.1)
+
+pub all_terms : (ms : List Module) (names : List (List ℕ)) → names ≡ with_mentions first_atoms (mentions_of ms) → list_all is_name names ≡ true
+    → list_all (λ m. are_canonical_functions m.functions) ms ≡ true → sum_by literal_words_in ms ≤ MOST_LITERALS → AllByRecursion IsTerm (literals_of (mentions_of ms))
+all_terms ms names table are canonical few = terms_of names (literals_of (mentions_of ms)) (can_stand ms names (mentions_of ms) refl table are canonical few)

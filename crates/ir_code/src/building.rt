@@ -1,7 +1,7 @@
 //! The constants of modules.
 ghost use Rattle.beam_code.specs.CanonicalModule.{are_canonical_functions};
 ghost use Rattle.image_format.specs.declared.limits.TheConstants.{MOST_LITERALS};
-ghost use Rattle.ir_code.specs.Constants.{constants_of, with_literals};
+ghost use Rattle.ir_code.specs.Constants.{ConstantsHold, constants_of, with_literals};
 ghost use Rattle.ir_code.specs.Laying.{CanStand, literals_in};
 ghost use Rattle.ir_code.specs.Room.{HaveRoom};
 ghost use Rattle.std.specs.List.{AllByRecursion, list_all};
@@ -69,11 +69,13 @@ fn with_literals(alloc: Global, mentions: &[Mention], atoms: Atoms) -> Result<Co
 /// and atoms 33,554,418, repeats counted. The one error is want of memory.
 pub fn constants(alloc: Global, modules: &[Module]) -> Result<Constants, AllocError>
     requires { HaveRoom modules.now }
-    ensures { IfOk result (λ c. c ≡ constants_of modules.now) }
+    ensures constants { IfOk result (λ c. c ≡ constants_of modules.now) }
+    ensures hold { IfOk result (λ c. ConstantsHold c modules.now) }
 {
     are_canonical(modules);
     let all = mentions(alloc, modules)?;
     let atoms = table(alloc, all.as_slice())?;
     are_names(atoms.names());
-    with_literals(alloc, all.as_slice(), atoms)
+    let made = with_literals(alloc, all.as_slice(), atoms)?;
+    Ok(made)
 }

@@ -3,6 +3,7 @@
 
 mod adding;
 mod building;
+mod knowing;
 mod laws;
 mod laying;
 mod mentioning;
@@ -10,6 +11,7 @@ mod parts;
 
 pub use adding::add_atoms;
 pub use building::{MOST_NAMES, constants};
-pub use laws::constants_hold;
+pub use knowing::are_known;
+pub use laws::{constants_hold, known_mentions_have_names, short_texts_have_room};
 pub use mentioning::{Mention, mentions};
 pub use parts::Constants;

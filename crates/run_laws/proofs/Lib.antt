@@ -1,0 +1,10 @@
+pub mod Lists
+pub mod Tags
+pub mod Held
+pub mod Slots
+pub mod Callees
+pub mod Landing
+pub mod Rows
+pub mod Marks
+pub mod Local
+pub mod Running

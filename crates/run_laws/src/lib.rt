@@ -1,0 +1,22 @@
+//! Laws of the runs of checked modules: each state is one that a path shows, no row is stuck, and
+//! a run ends.
+#![tactic(auto)]
+
+ghost use Rattle.run_laws.specs.Runs.{NoRowIsStuck, RunsEnd, StatesAreShown};
+
+/// A law: each state of a run is one that a path shows: the item, the size of the stack, the marks
+/// of handlers, and the registers that are defined. Each frame that waits stands at a call where
+/// such a path ends.
+pub fn states_are_shown()
+    ensures { StatesAreShown }
+{}
+
+/// A law: no row of a run is stuck.
+pub fn no_row_is_stuck()
+    ensures { NoRowIsStuck }
+{}
+
+/// A law: a run ends within the rows that are stated for it, so its meaning is an outcome.
+pub fn runs_end()
+    ensures { RunsEnd }
+{}
