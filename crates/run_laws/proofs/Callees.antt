@@ -1,15 +1,14 @@
 -- Functions that are called, and built-ins that give a value.
-use Rattle.std.proofs.Common.{inl, inr, ◌≡◌, ℕ, zero, suc, ◌+◌, Bool, true, false, not, ◌&&◌, ◌||◌, ◌⊎◌, codes, Option, Some, None, List, [], ◌∷◌, length, nat_eq, slice_get, refl, ap, subst, sym, ◌∙◌, arith, if◌then◌else◌}
+use Rattle.std.proofs.Common.{inl, inr, ◌≡◌, ℕ, zero, suc, ◌+◌, Bool, true, false, ◌&&◌, ◌||◌, ◌⊎◌, codes, Some, None, List, [], ◌∷◌, nat_eq, slice_get, refl, ap, subst, sym, ◌∙◌, arith, if◌then◌else◌}
 use Rattle.std.specs.List.{AllByRecursion}
 use Rattle.std.specs.Str.{bytes_eq}
 use Rattle.std.proofs.lemmas.Bool.Decides.{nat_tests}
 use Rattle.term_tree.proofs.TermLaws.{both_hold}
 use Rattle.term_tree.specs.Tree.{Tree}
-use Rattle.beam_code.specs.declared.instr.Callee.{Callee}
 use Rattle.beam_code.specs.declared.module.Module.{Module}
 use Rattle.beam_code.specs.Answer.{Value, Is}
 use Rattle.beam_code.specs.Answer as value
-use Rattle.beam_code.specs.BuiltIns.{Answer, BuiltIn, Failure, NoFailure, Badarith, Badarg, First, failed, Gives, answer_of, answered, builtin, built_in_number, built_ins, is_built_in}
+use Rattle.beam_code.specs.BuiltIns.{BuiltIn, Failure, NoFailure, Badarith, Badarg, First, failed, Gives, answer_of, answered, builtin, built_in_number, built_ins, is_built_in}
 use Rattle.beam_code.specs.Function.{Placed, all_functions, exported_number, exports_of, first_that, function_at, is_exported, is_named, is_target, number_of, same_name, target_of}
 use Rattle.beam_code.specs.Uses.{never_returns}
 use Rattle.path_rules.proofs.Owners.{name_is}

@@ -1,10 +1,8 @@
 -- What a running function holds of a path's point, and how that stays as registers change.
-use Rattle.std.proofs.Common.{◌≡◌, ℕ, zero, suc, ◌+◌, ◌-◌, ◌<◌, ◌≤◌, inl, inr, Bool, true, false, ◌&&◌, Option, Some, None, List, [], ◌∷◌, ◌++◌, drop, length, replicate, slice_get, slice_set, slice_index_or, nat_eq, nat_lt, refl, ap, subst, sym, ◌∙◌, arith, if◌then◌else◌}
+use Rattle.std.proofs.Common.{◌≡◌, ℕ, zero, suc, ◌<◌, inl, inr, Bool, true, false, Option, Some, None, List, [], ◌∷◌, length, slice_get, slice_set, slice_index_or, nat_lt, refl, ap, subst, sym, ◌∙◌, arith, if◌then◌else◌}
 use Rattle.std.specs.List.{list_all}
-use Rattle.std.specs.Option.{option_map}
-use Rattle.std.proofs.lemmas.Bool.Decides.{nat_tests}
 use Rattle.std.proofs.lemmas.Bool.{cases_eq, ltb-true, lt-ltb}
-use Rattle.small_step.specs.Stage.{Stage, Still, Done}
+use Rattle.small_step.specs.Stage.{Stage}
 use Rattle.term_tree.proofs.TermLaws.{both_hold}
 use Rattle.term_tree.specs.Term.{tree_of}
 use Rattle.term_tree.specs.Tree as t
@@ -14,7 +12,7 @@ use Rattle.beam_code.specs.declared.instr.Operand.TheVariants.{X, Y, Int, Atom, 
 use Rattle.beam_code.specs.declared.instr.Place.{Place}
 use Rattle.beam_code.specs.declared.instr.Place.TheVariants as place
 use Rattle.beam_code.specs.Row.{put, read_of, reads_of, slot_term, stuck, with_head, x_term, y_set, y_term}
-use Rattle.beam_code.specs.State.{Event, Local, Slot, Holds, Undefined, x_registers}
+use Rattle.beam_code.specs.State.{Event, Local, Slot, Holds, x_registers}
 use Rattle.path_rules.specs.declared.tag.Tag.{Tag}
 use Rattle.path_rules.specs.Points.{defined}
 use Rattle.path_rules.specs.Ranges.{place_in_range}
@@ -22,8 +20,8 @@ use Rattle.path_rules.specs.Registers.{first_xs, place_passes, xs_in, ys_in}
 use Rattle.path_rules.specs.Rules.{is_defined, is_in_stack}
 use Rattle.path_rules.specs.Tags.{is_untagged}
 use Rattle.run_laws.proofs.Lists.{get_set_here, get_set_other, index_set, length_set, registers_set}
-use Rattle.run_laws.proofs.Tags.{IsPlain, plain_set, untagged_plain}
-use Rattle.run_laws.specs.Shown.{ShowsRegisters, ShowsStack, size_of, slots_of, tags_from}
+use Rattle.run_laws.proofs.Tags.{plain_set, untagged_plain}
+use Rattle.run_laws.specs.Shown.{ShowsRegisters, ShowsStack, slots_of}
 
 pub record Has (r item : ℕ) (stack : Option ℕ) (tags : List Tag) (xs ys : List Bool) (l : Local) : Type 0 where
   pub left : l.left ≡ r

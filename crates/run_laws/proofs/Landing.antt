@@ -1,5 +1,5 @@
 -- What a row of an item leads to, from what a path's point shows.
-use Rattle.std.proofs.Common.{◌≡◌, ℕ, ◌+◌, inl, inr, ◌<◌, Bool, true, false, not, ◌&&◌, ◌||◌, Option, Some, None, is_some, List, [], ◌∷◌, ◌++◌, length, map, nat_eq, nat_lt, refl, ap, subst, sym, ◌∙◌, arith, if◌then◌else◌}
+use Rattle.std.proofs.Common.{◌≡◌, ℕ, ◌+◌, inl, inr, Bool, true, false, not, ◌&&◌, Option, Some, None, is_some, List, [], ◌∷◌, ◌++◌, length, nat_lt, refl, ap, subst, sym, ◌∙◌, arith, if◌then◌else◌}
 use Rattle.std.specs.List.{Contains, list_all}
 use Rattle.std.proofs.lemmas.List.Elements.{Contains-append_left, Contains-append_right}
 use Rattle.small_step.specs.Stage.{Stage, Still, Done}
@@ -11,12 +11,11 @@ use Rattle.beam_code.specs.Function.{Placed, function_at, label_in}
 use Rattle.beam_code.specs.Gates.{may_raise}
 use Rattle.beam_code.specs.Row.{jumped, next}
 use Rattle.beam_code.specs.Shape.{Shape, Target, Calls as Calling, Stays}
-use Rattle.beam_code.specs.State.{End, Bignum, HeapFull, StackFull, OutOfReductions, BadOperand, NotProvided, Stuck, Event, Calls, TailCalls, Returns, Raises, Ends, Local}
+use Rattle.beam_code.specs.State.{End, Stuck, Event, Calls, TailCalls, Returns, Raises, Ends, Local}
 use Rattle.beam_code.specs.Uses.{comes_back, shape_goes_on}
 use Rattle.path_rules.specs.declared.rule.Rule.TheVariants.{FallsOff}
-use Rattle.path_rules.specs.declared.tag.Tag.{Tag}
 use Rattle.path_rules.specs.Points.{Point, at_item, at_labels, behind, handlers, labels_of, moves_of, onward, stack_behind, tags_behind, xs_behind, ys_behind}
-use Rattle.path_rules.specs.Rules.{breaks_of, falls_off}
+use Rattle.path_rules.specs.Rules.{breaks_of}
 use Rattle.path_rules.specs.Tags.{lowest_tag}
 use Rattle.run_laws.proofs.Held.{Has}
 use Rattle.run_laws.specs.Shown.{ShowsStack}

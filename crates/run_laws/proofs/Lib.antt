@@ -8,3 +8,4 @@ pub mod Rows
 pub mod Marks
 pub mod Local
 pub mod Running
+pub mod Same

@@ -1,5 +1,5 @@
 -- A running function by itself: each state shows the end of a path, and so does what a row of it leads to.
-use Rattle.std.proofs.Common.{◌≡◌, ℕ, zero, suc, ◌+◌, ◌-◌, ◌<◌, ◌≤◌, Bool, true, false, ◌&&◌, ◌||◌, Option, Some, None, List, [], ◌∷◌, ◌++◌, length, nat_eq, nat_lt, slice_get, refl, ap, subst, sym, ◌∙◌, arith, if◌then◌else◌}
+use Rattle.std.proofs.Common.{◌≡◌, ℕ, zero, suc, ◌+◌, ◌-◌, ◌<◌, ◌≤◌, Bool, true, false, ◌||◌, Option, Some, None, List, [], ◌∷◌, ◌++◌, length, nat_eq, nat_lt, slice_get, refl, ap, subst, sym, ◌∙◌, arith, if◌then◌else◌}
 use Rattle.std.specs.List.{Contains, list_all}
 use Rattle.std.proofs.lemmas.Bool.Decides.{nat_tests}
 use Rattle.std.proofs.lemmas.List.Elements.{Contains-append_right}
@@ -10,7 +10,6 @@ use Rattle.paths.specs.Paths.{Free}
 use Rattle.term_tree.proofs.TermLaws.{both_hold}
 use Rattle.term_tree.specs.Tree.{Tree}
 use Rattle.beam_code.specs.declared.call.Limits.{Limits}
-use Rattle.beam_code.specs.declared.call.RaiseClass.{RaiseClass}
 use Rattle.beam_code.specs.declared.module.Module.{Module}
 use Rattle.beam_code.specs.Frame.{begun}
 use Rattle.beam_code.specs.Function.{Placed, all_functions, cost_of, function_at, label_in}
@@ -19,7 +18,7 @@ use Rattle.beam_code.specs.Lined.{Lined}
 use Rattle.beam_code.specs.Raise.{Handler, lowest_tag as lowest_mark}
 use Rattle.beam_code.specs.Row.{enters, item_row, local_step, row}
 use Rattle.beam_code.specs.Shape as s
-use Rattle.beam_code.specs.State.{Event, Calls, TailCalls, Returns, Raises, Ends, Local, OutOfReductions, StackFull, Slot, TagKind, OfTry, OfCatch, only, x_registers}
+use Rattle.beam_code.specs.State.{Event, Calls, TailCalls, Returns, Raises, Ends, Local, OutOfReductions, StackFull, Slot, only, x_registers}
 use Rattle.beam_rows.proofs.Raising.{rows_raise_through_gates}
 use Rattle.path_rules.proofs.Profiled.{profile_ends, profile_keeps}
 use Rattle.path_rules.proofs.Staying.{free_stays}
@@ -29,16 +28,15 @@ use Rattle.path_rules.specs.declared.tag.Tag.{Tag}
 use Rattle.path_rules.specs.Laws.{Ends as PathsEnd, KeepsRules, Onward}
 use Rattle.path_rules.specs.Points.{Point, at_handler, at_labels, behind, caught_xs, first_defined, graph, handlers, labels_of, moves_at, moves_of, onward, start_of}
 use Rattle.path_rules.specs.Rules.{breaks_at, breaks_of}
-use Rattle.path_rules.specs.Tags.{lowest_tag, untouched}
-use Rattle.run_laws.proofs.Held.{Has}
-use Rattle.run_laws.proofs.Landing.{HasPoint, IsCallee, IsEnd, IsLeft, IsWaiting, Lands, moves_on}
+use Rattle.path_rules.specs.Tags.{lowest_tag}
+use Rattle.run_laws.proofs.Landing.{HasPoint, IsCallee, IsEnd, IsWaiting, Lands, moves_on}
 use Rattle.run_laws.proofs.Lists.{only_shows, only_wide}
 use Rattle.run_laws.proofs.Marks.{handler_there}
 use Rattle.run_laws.proofs.Rows.{IsFine, row_lands}
 use Rattle.run_laws.proofs.Slots.{none_shown_there}
 use Rattle.run_laws.proofs.Tags.{IsLowest, lowest_is, untouched_none}
 use Rattle.run_laws.specs.Formed.{AreChecked, IsFormed, is_formed}
-use Rattle.run_laws.specs.Shown.{ShowsStack, kind_of, slots_of, tags_from}
+use Rattle.run_laws.specs.Shown.{ShowsStack, kind_of, slots_of}
 
 contains_at : {A : Type 0} (xs : List A) (k : ℕ) (x : A) → slice_get xs k ≡ Some x → Contains xs x
 contains_at [] k x e = absurd cc

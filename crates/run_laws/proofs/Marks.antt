@@ -1,5 +1,5 @@
 -- The marks of a path have labels of the function.
-use Rattle.std.proofs.Common.{◌≡◌, ℕ, zero, suc, ◌+◌, ◌-◌, ◌<◌, Bool, true, false, not, ◌&&◌, Option, Some, None, is_some, List, [], ◌∷◌, ◌++◌, filter, length, map, nat_eq, nat_lt, slice_get, refl, ap, subst, sym, ◌∙◌, arith, if◌then◌else◌}
+use Rattle.std.proofs.Common.{◌≡◌, ℕ, zero, suc, ◌+◌, Bool, true, false, not, ◌&&◌, Option, Some, None, is_some, List, [], ◌∷◌, ◌++◌, filter, length, map, nat_eq, nat_lt, slice_get, refl, subst, sym, if◌then◌else◌}
 use Rattle.std.specs.List.{All, list_all}
 use Rattle.std.proofs.lemmas.Bool.{and_from}
 use Rattle.std.proofs.lemmas.List.Elements.{All-append, All-cons, All-contains, All-nil}
@@ -16,7 +16,7 @@ use Rattle.path_rules.specs.declared.tag.Tag.{Tag}
 use Rattle.path_rules.specs.declared.tag.TagKind.{TagKind}
 use Rattle.path_rules.specs.declared.tag.TagKind.TheVariants.{Try, Catch}
 use Rattle.path_rules.specs.Laws.{KeepsRules}
-use Rattle.path_rules.specs.Points.{Point, at_handler, at_item, at_labels, behind, graph, handlers, labels_of, moves_at, moves_of, onward, start_of, tags_behind}
+use Rattle.path_rules.specs.Points.{Point, at_handler, at_item, at_labels, behind, graph, handlers, labels_of, moves_at, onward, tags_behind}
 use Rattle.path_rules.specs.Rules.{breaks_at, breaks_of, leads_to_end}
 use Rattle.path_rules.specs.Registers.{places_of}
 use Rattle.path_rules.specs.Tags.{is_touched, lowest_tag, moved_down, tagged}

@@ -1,10 +1,7 @@
 -- Each row, by its shape, from what a path's point shows where no rule is broken.
-use Rattle.std.proofs.Common.{inl, inr, ◌≡◌, ℕ, zero, suc, ◌+◌, ◌-◌, ◌<◌, ◌≤◌, Bool, true, false, not, ◌&&◌, Option, Some, None, is_none, is_some, List, [], ◌∷◌, ◌++◌, drop, length, map, replicate, nat_eq, nat_le, nat_lt, slice_get, slice_set, slice_index_or, refl, ap, subst, sym, ◌∙◌, arith, if◌then◌else◌, codes}
+use Rattle.std.proofs.Common.{inl, inr, ◌≡◌, ℕ, ◌+◌, Bool, true, false, not, ◌&&◌, Option, Some, None, is_none, is_some, List, [], ◌∷◌, ◌++◌, drop, length, map, replicate, nat_eq, nat_le, nat_lt, slice_get, slice_set, slice_index_or, refl, ap, subst, sym, ◌∙◌, arith, if◌then◌else◌, codes}
 use Rattle.std.specs.List.{Contains, list_all}
-use Rattle.std.specs.Option.{option_map}
-use Rattle.std.proofs.lemmas.Bool.{ltb-true}
-use Rattle.std.proofs.lemmas.Bool.Decides.{nat_tests}
-use Rattle.small_step.specs.Stage.{Stage, Still, Done}
+use Rattle.small_step.specs.Stage.{Stage, Done}
 use Rattle.paths.proofs.Tests.{first_or_later, here, later}
 use Rattle.term_tree.proofs.TermLaws.{both_hold}
 use Rattle.term_tree.specs.Size as sizes
@@ -26,13 +23,13 @@ use Rattle.beam_code.specs.declared.instr.Callee.{Callee}
 use Rattle.beam_code.specs.Function.{Placed, exported_number, is_given, target_of}
 use Rattle.beam_code.specs.Row as row
 use Rattle.beam_code.specs.Shape as s
-use Rattle.beam_code.specs.State.{Local, Event, Calls, TailCalls, Returns, Raises, Ends, BadOperand, HeapFull, NotProvided, only, Slot, Undefined, Holds, Tag, TagKind, OfTry, OfCatch}
+use Rattle.beam_code.specs.State.{Local, Event, TailCalls, Returns, Ends, BadOperand, HeapFull, NotProvided, only, Undefined, Tag, TagKind, OfTry, OfCatch}
 use Rattle.beam_code.specs.Uses.{call_goes_on, comes_back, shape_goes_on}
 use Rattle.path_rules.specs.declared.rule.Rule.{Rule}
 use Rattle.path_rules.specs.declared.rule.Rule.TheVariants as rule
 use Rattle.path_rules.specs.declared.tag.TagKind.{TagKind as Kind}
 use Rattle.path_rules.specs.declared.tag.TagKind.TheVariants.{Try, Catch}
-use Rattle.path_rules.specs.Points.{Point, y_registers, branch_labels, defined, fail_labels, kept_live, labels_of, none_defined, undefined}
+use Rattle.path_rules.specs.Points.{Point, y_registers, defined, fail_labels, kept_live, undefined}
 use Rattle.path_rules.specs.Ranges.{allocated, is_in_range, operand_in_range, place_in_range}
 use Rattle.path_rules.specs.Registers.{first_xs, implied_xs, names_pass, operand_passes, operands_of, others_pass, place_passes, places_of, reads_of, uses_pass, xs_in, ys_in}
 use Rattle.path_rules.specs.Rules.{breaks_of, calls_well, leaving_fits, is_at_label_of, is_tag_of, is_defined, is_in_stack, same_stack, shape_ends_well, shape_fits, shape_keeps_tags, stack_fits, tags_fit}
@@ -40,7 +37,7 @@ use Rattle.path_rules.specs.declared.tag.Tag.{Tag as Mark}
 use Rattle.path_rules.specs.Tags.{is_untagged, lowest_tag, mark_kind, tagged, untagged, untouched}
 use Rattle.run_laws.proofs.Held.{AllFit, Fits, Has, all_fit, first_there, put_has, reads_all, reads_one, y_set_is, y_there}
 use Rattle.run_laws.proofs.Callees.{comes_back_with, export_called, no_raiser, same_number, target_called}
-use Rattle.run_laws.proofs.Landing.{HasPoint, IsCallee, IsEnd, IsLeft, Lands, lands_at, lands_on}
+use Rattle.run_laws.proofs.Landing.{HasPoint, IsCallee, IsLeft, Lands, lands_at, lands_on}
 use Rattle.run_laws.proofs.Lists.{AreArguments, arguments_there, index_set, only_shows, only_wide, registers_kept, length_kept}
 use Rattle.run_laws.proofs.Slots.{cleared_shown, marked_shown, new_shown, no_slots, none_shown_there, so_many_slots, trimmed_shown}
 use Rattle.run_laws.proofs.Tags.{kind_is, untouched_is, untouched_none}

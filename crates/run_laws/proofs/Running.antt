@@ -3,21 +3,20 @@ use Rattle.std.proofs.Common.{◌≡◌, ◌≢◌, ℕ, zero, suc, ◌+◌, ◌
 use Rattle.std.specs.Option.{option_and_then}
 use Rattle.small_step.proofs.Runs.{done_stays, steps_on}
 use Rattle.small_step.specs.Stage.{Stage, Still, Done, run, and_then}
-use Rattle.term_tree.specs.Tree as t
 use Rattle.term_tree.specs.Tree.{Tree}
 use Rattle.beam_code.specs.declared.call.Limits.{Limits}
 use Rattle.beam_code.specs.declared.module.Module.{Module}
 use Rattle.beam_code.specs.Frame.{after, back_in, beam_step, begun, costs_of, entered, frame_of, row_at, state_of}
 use Rattle.beam_code.specs.Function.{Placed, all_functions, function_at, items_in, items_of, label_in}
-use Rattle.beam_code.specs.Meaning.{entry_of, first_state, meaning, most_rows, words_in}
+use Rattle.beam_code.specs.Meaning.{entry_of, first_state, most_rows, words_in}
 use Rattle.beam_code.specs.Raise.{Handler, Search, caught, caught_words, class_atom, handled, label_at, lowest_tag, raise_in, resumed, searching}
 use Rattle.beam_code.specs.Row.{local_step}
-use Rattle.beam_code.specs.State.{BeamState, End, Bignum, HeapFull, StackFull, OutOfReductions, BadOperand, NotProvided, Stuck, Ended, Event, Calls, TailCalls, Returns, Raises, Ends, Finish, Frame, Local, Outcome, Returned, Raised, TagKind, OfTry, OfCatch, only}
+use Rattle.beam_code.specs.State.{BeamState, End, Bignum, HeapFull, StackFull, OutOfReductions, BadOperand, NotProvided, Stuck, Ended, Event, Calls, TailCalls, Returns, Raises, Ends, Finish, Frame, Local, Outcome, TagKind, OfTry, OfCatch, only}
 use Rattle.run_laws.proofs.Landing.{IsCallee, IsEnd}
 use Rattle.run_laws.proofs.Local.{HasHandler, IsEvent, LeftAt, LeftAtCall, Next, Shown, Spends, answered, events_late, handled_at, handler_of, next, short, starts}
 use Rattle.run_laws.specs.Formed.{AreChecked}
 use Rattle.run_laws.specs.Runs.{IsCall, NoRowIsStuck, RunsEnd, StatesAreShown}
-use Rattle.run_laws.specs.Shown.{AllWait as AllShown, StateIsShown, Waits as IsFrameShown}
+use Rattle.run_laws.specs.Shown.{AllWait as AllShown, StateIsShown}
 
 abbrev NotStuck : Outcome → Type 0
 NotStuck (Ended Stuck) = ⊥

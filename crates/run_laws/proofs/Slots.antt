@@ -1,9 +1,7 @@
 -- Y registers that come, go and change, as paths and states know them.
-use Rattle.std.proofs.Common.{inl, inr, ◌≡◌, ℕ, zero, suc, ◌+◌, ◌-◌, ◌<◌, ◌≤◌, Bool, true, false, Option, Some, None, is_none, List, [], ◌∷◌, ◌++◌, drop, length, replicate, nat_eq, slice_get, slice_set, slice_index_or, refl, ap, subst, sym, ◌∙◌, arith, if◌then◌else◌}
+use Rattle.std.proofs.Common.{◌≡◌, ℕ, zero, suc, ◌+◌, ◌-◌, ◌<◌, Bool, true, false, Option, Some, None, is_none, List, [], ◌∷◌, ◌++◌, drop, length, replicate, nat_eq, slice_get, slice_set, slice_index_or, refl, ap, subst, sym, ◌∙◌, arith}
 use Rattle.std.specs.Option.{option_map}
-use Rattle.std.proofs.lemmas.Bool.Decides.{nat_tests}
 use Rattle.std.proofs.lemmas.List.{length-drop, length-replicate}
-use Rattle.beam_code.specs.Raise.{Handler}
 use Rattle.beam_code.specs.State as state
 use Rattle.beam_code.specs.State.{Slot, Holds, Undefined}
 use Rattle.path_rules.specs.declared.tag.Tag.{Tag}
@@ -12,7 +10,7 @@ use Rattle.path_rules.specs.Rules.{same_stack}
 use Rattle.path_rules.specs.Tags.{tagged, trimmed, untagged}
 use Rattle.run_laws.proofs.Lists.{get_set_other, index_unset, length_set, none_shown}
 use Rattle.run_laws.proofs.Tags.{tagged_is, trimmed_is, untagged_is}
-use Rattle.run_laws.specs.Shown.{ShowsStack, kind_of, size_of, slots_of, tags_from}
+use Rattle.run_laws.specs.Shown.{ShowsStack, kind_of, tags_from}
 
 no_marks : (n at : ℕ) → tags_from at (replicate n Undefined) ≡ []
 no_marks zero at = refl

@@ -1,6 +1,6 @@
 -- The marks among y registers, as these change.
-use Rattle.std.proofs.Common.{◌≡◌, ℕ, zero, suc, ◌+◌, ◌-◌, ◌<◌, ◌≤◌, Bool, true, false, not, ◌&&◌, ◌||◌, Option, Some, None, List, [], ◌∷◌, ◌++◌, drop, filter, length, map, nat_eq, nat_lt, slice_get, slice_set, refl, ap, subst, sym, ◌∙◌, arith, if◌then◌else◌}
-use Rattle.std.specs.List.{list_all, list_any}
+use Rattle.std.proofs.Common.{◌≡◌, ℕ, zero, suc, ◌+◌, ◌-◌, ◌<◌, ◌≤◌, Bool, true, false, not, ◌&&◌, ◌||◌, Some, None, List, [], ◌∷◌, ◌++◌, drop, filter, length, map, nat_eq, nat_lt, slice_get, slice_set, refl, ap, subst, sym, ◌∙◌, arith, if◌then◌else◌}
+use Rattle.std.specs.List.{list_all}
 use Rattle.std.proofs.lemmas.Bool.Decides.{nat_tests}
 use Rattle.term_tree.proofs.TermLaws.{both_hold}
 use Rattle.beam_code.specs.declared.instr.Place.{Place}

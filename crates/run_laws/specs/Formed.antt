@@ -1,5 +1,5 @@
 -- Modules whose runs the laws speak of: in the profile, and formed as their texts are (docs/BEAM.md, Forms and Rules).
-use Rattle.std.specs.Prelude.{◌≡◌, ℕ, ◌≤◌, ◌<◌, Bool, true, ◌&&◌, is_some, List, length, Some, slice_get}
+use Rattle.std.specs.Prelude.{◌≡◌, ◌≤◌, Bool, true, ◌&&◌, is_some, List, length, Some, slice_get}
 use Rattle.std.specs.List.{Contains, list_all}
 use Rattle.beam_code.specs.declared.module.Function.{Function}
 use Rattle.beam_code.specs.declared.module.Module.{Module}

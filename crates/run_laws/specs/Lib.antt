@@ -1,3 +1,5 @@
 pub mod Formed
 pub mod Shown
 pub mod Runs
+pub mod Static
+pub mod Example

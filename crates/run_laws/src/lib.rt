@@ -2,7 +2,12 @@
 //! a run ends.
 #![tactic(auto)]
 
+mod example;
+
 ghost use Rattle.run_laws.specs.Runs.{NoRowIsStuck, RunsEnd, StatesAreShown};
+ghost use Rattle.run_laws.specs.Static.{HandlersAreStatic};
+
+pub use example::example_means;
 
 /// A law: each state of a run is one that a path shows: the item, the size of the stack, the marks
 /// of handlers, and the registers that are defined. Each frame that waits stands at a call where
@@ -19,4 +24,10 @@ pub fn no_row_is_stuck()
 /// A law: a run ends within the rows that are stated for it, so its meaning is an outcome.
 pub fn runs_end()
     ensures { RunsEnd }
+{}
+
+/// A law: in each state of a run the size of the stack, and the handler that the marks of y registers give, are those of
+/// every path to the item, for the running function and for each frame that waits.
+pub fn handlers_are_static()
+    ensures { HandlersAreStatic }
 {}
