@@ -9,3 +9,4 @@ pub mod Marks
 pub mod Local
 pub mod Running
 pub mod Same
+pub mod Falling

@@ -3,3 +3,4 @@ pub mod Shown
 pub mod Runs
 pub mod Static
 pub mod Example
+pub mod Ranks

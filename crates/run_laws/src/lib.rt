@@ -4,6 +4,7 @@
 
 mod example;
 
+ghost use Rattle.run_laws.specs.Ranks.{RanksFall};
 ghost use Rattle.run_laws.specs.Runs.{NoRowIsStuck, RunsEnd, StatesAreShown};
 ghost use Rattle.run_laws.specs.Static.{HandlersAreStatic};
 
@@ -30,4 +31,9 @@ pub fn runs_end()
 /// every path to the item, for the running function and for each frame that waits.
 pub fn handlers_are_static()
     ensures { HandlersAreStatic }
+{}
+
+/// A law: the rank of a point, which is the most items on a path onward from it, falls at each move of a path.
+pub fn ranks_fall()
+    ensures { RanksFall }
 {}
