@@ -10,3 +10,4 @@ pub mod Local
 pub mod Running
 pub mod Same
 pub mod Falling
+pub mod Brief

@@ -97,7 +97,7 @@ module _ (ms : List Module) (f : Placed) where
   Next n r (Done (Ends e l)) = IsEnd e
 
 module _ (ms : List Module) (checked : AreChecked ms) (fid : ℕ) (f : Placed) (is : function_at ms fid ≡ Some f) where
-  among : Contains (all_functions ms) f
+  pub among : Contains (all_functions ms) f
   among = contains_at (all_functions ms) fid f is
 
   formed : IsFormed f.function

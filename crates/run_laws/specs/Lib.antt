@@ -4,3 +4,4 @@ pub mod Runs
 pub mod Static
 pub mod Example
 pub mod Ranks
+pub mod Activations

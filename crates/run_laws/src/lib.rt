@@ -4,6 +4,7 @@
 
 mod example;
 
+ghost use Rattle.run_laws.specs.Activations.{ActivationsAreShort};
 ghost use Rattle.run_laws.specs.Ranks.{RanksFall};
 ghost use Rattle.run_laws.specs.Runs.{NoRowIsStuck, RunsEnd, StatesAreShown};
 ghost use Rattle.run_laws.specs.Static.{HandlersAreStatic};
@@ -36,4 +37,9 @@ pub fn handlers_are_static()
 /// A law: the rank of a point, which is the most items on a path onward from it, falls at each move of a path.
 pub fn ranks_fall()
     ensures { RanksFall }
+{}
+
+/// A law: within one activation no item is met twice, so it has fewer rows than the function has items.
+pub fn activations_are_short()
+    ensures { ActivationsAreShort }
 {}
