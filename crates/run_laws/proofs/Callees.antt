@@ -37,27 +37,19 @@ pub record IsCalled (ms : List Module) (arity callee : ℕ) : Type 0 where
 pub same_number : (a b : ℕ) → nat_eq a b ≡ true → a ≡ b
 same_number a b e = grind (arith, nat_tests)
 
-pub target_called : (ms : List Module) (p : Placed) (label arity callee : ℕ) → target_of ms p label arity ≡ Some callee → IsCalled ms arity callee
-target_called ms p label arity callee e =
-    let f = found_first (is_target p.owner.name label arity) 0 (all_functions ms) callee e in
+-- the first function that passes a test, which looks at the arity too
+first_called : (ms : List Module) (test : Placed → Bool) (arity callee : ℕ) → first_that test 0 (all_functions ms) ≡ Some callee → ((p : Placed) → test p ≡ true → nat_eq arity p.function.arity ≡ true) → IsCalled ms arity callee
+first_called ms test arity callee e counts =
+    let f = found_first test 0 (all_functions ms) callee e in
     let number = f.number in
     let place : callee ≡ f.place = omega arith in
-    record {
-      placed = f.found;
-      is = ap (function_at ms) place ∙ f.there;
-      many = same_number arity f.found.function.arity (both_hold _ (nat_eq arity f.found.function.arity) f.passes).1;
-    }
+    record { placed = f.found; is = ap (function_at ms) place ∙ f.there; many = same_number arity f.found.function.arity (counts f.found f.passes) }
+
+pub target_called : (ms : List Module) (p : Placed) (label arity callee : ℕ) → target_of ms p label arity ≡ Some callee → IsCalled ms arity callee
+target_called ms p label arity callee e = first_called ms (is_target p.owner.name label arity) arity callee e (λ q passes. (both_hold _ (nat_eq arity q.function.arity) passes).1)
 
 named_called : (ms : List Module) (m f : List ℕ) (arity callee : ℕ) → number_of ms m f arity ≡ Some callee → IsCalled ms arity callee
-named_called ms m g arity callee e =
-    let f = found_first (is_named m g arity) 0 (all_functions ms) callee e in
-    let number = f.number in
-    let place : callee ≡ f.place = omega arith in
-    record {
-      placed = f.found;
-      is = ap (function_at ms) place ∙ f.there;
-      many = same_number arity f.found.function.arity (both_hold _ (nat_eq arity f.found.function.arity) f.passes).1;
-    }
+named_called ms m g arity callee e = first_called ms (is_named m g arity) arity callee e (λ q passes. (both_hold _ (nat_eq arity q.function.arity) passes).1)
 
 pub export_called : (ms : List Module) (m f : List ℕ) (arity callee : ℕ) → exported_number ms m f arity ≡ Some callee → IsCalled ms arity callee
 export_called ms m f arity callee e = by (is_exported f arity (exports_of ms m)) e

@@ -55,7 +55,7 @@ Lands ms r f p shape (Done (Returns v l)) = l.left ≡ r
 Lands ms r f p shape (Done (Raises class reason l)) = IsLeft r p l
 Lands ms r f p shape (Done (Ends e l)) = IsEnd e
 
-not_false : (b : Bool) → not b ≡ false → b ≡ true
+pub not_false : (b : Bool) → not b ≡ false → b ≡ true
 not_false true e = refl
 not_false false e = cc
 

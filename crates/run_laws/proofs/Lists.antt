@@ -39,18 +39,7 @@ length_set [] i v = refl
 length_set (x ∷ xs) zero v = refl
 length_set (x ∷ xs) (suc i) v = ap suc (length_set xs i v)
 
--- what holds of the registers that are defined, where one more is
-pub set_shows : {A : Type 0} (S : A → Tree → Type 0) (xs : List Bool) (held : List A) (i : ℕ) (a : A) (v : Tree) → S a v → i < length held
-    → ((n : ℕ) → slice_index_or xs n false ≡ true → (w : Tree) × (b : A) × (slice_get held n ≡ Some b) × S b w)
-    → (n : ℕ) → slice_index_or (slice_set xs i true) n false ≡ true → (w : Tree) × (b : A) × (slice_get (slice_set held i a) n ≡ Some b) × S b w
-set_shows S xs held i a v is low shows n h = elim (cases_eq n i) [
-  | inl e ↦ (v, a, ap (slice_get (slice_set held i a)) e ∙ get_set_here held i a low, is)
-  | inr ne ↦ elim (index_set xs i n h) [
-    | inl e ↦ absurd (ne e)
-    | inr g ↦ (let t = shows n g in (t.0, t.1, get_set_other held i n a ne ∙ t.2, t.3))
-  ]
-]
-
+-- one more register is defined
 pub registers_set : (xs : List Bool) (held : List (Option Tree)) (i : ℕ) (v : Tree) → i < length held → ShowsRegisters xs held → ShowsRegisters (slice_set xs i true) (slice_set held i (Some v))
 registers_set xs held i v low shows n h = elim (cases_eq n i) [
   | inl e ↦ (v, ap (slice_get (slice_set held i (Some v))) e ∙ get_set_here held i (Some v) low)
@@ -83,13 +72,13 @@ pub registers_kept : (k : ℕ) (xs : List Bool) (held : List (Option Tree)) → 
 registers_kept k xs held shows n h = let r = kept_is k xs n h in let t = shows n r.1 in (t.0, kept_get k held n r.0 ∙ t.1)
 
 -- no others than the first so many
-past_none : (m n : ℕ) → slice_index_or (replicate m false) n false ≡ true → ⊥
-past_none zero n h = cc
-past_none (suc m) zero h = cc
-past_none (suc m) (suc n) h = past_none m n h
+pub none_shown : (m n : ℕ) → slice_index_or (replicate m false) n false ≡ true → ⊥
+none_shown zero n h = cc
+none_shown (suc m) zero h = cc
+none_shown (suc m) (suc n) h = none_shown m n h
 
 first_is : (k m n : ℕ) → slice_index_or (replicate k true ++ replicate m false) n false ≡ true → n < k
-first_is zero m n h = absurd (past_none m n h)
+first_is zero m n h = absurd (none_shown m n h)
 first_is (suc k) m zero h = omega arith
 first_is (suc k) m (suc n) h = let low = first_is k m n h in omega arith
 
@@ -106,9 +95,6 @@ unset = None
 
 pub only_wide : (vs : List Tree) → length vs ≤ x_registers → length (only vs) ≡ x_registers
 only_wide vs few = length-append (map (λ v. Some v) vs) (replicate (x_registers - length vs) unset) ∙ omega (arith, length-map vs (λ (v : Tree). Some v), length-replicate (x_registers - length vs) unset)
-
-pub none_shown : (m : ℕ) (n : ℕ) → slice_index_or (replicate m false) n false ≡ true → ⊥
-none_shown m n h = past_none m n h
 
 -- the arguments of a call are there
 first_some : {A : Type 0} (x : A) (y : A) → Some x ≡ Some y → x ≡ y

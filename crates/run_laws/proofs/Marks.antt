@@ -20,6 +20,7 @@ use Rattle.path_rules.specs.Points.{Point, at_handler, at_item, at_labels, behin
 use Rattle.path_rules.specs.Rules.{breaks_at, breaks_of, leads_to_end}
 use Rattle.path_rules.specs.Registers.{places_of}
 use Rattle.path_rules.specs.Tags.{is_touched, lowest_tag, moved_down, tagged}
+use Rattle.run_laws.proofs.Landing.{not_false}
 
 module _ (ms : List Module) (f : Placed) where
   abbrev pub has_label : Tag → Bool
@@ -52,10 +53,6 @@ module _ (ms : List Module) (f : Placed) where
   one_more t tags own all =
       joined (filter (λ u. nat_lt u.y t.y) tags) (t ∷ filter (λ u. nat_lt t.y u.y) tags) (filtered (λ u. nat_lt u.y t.y) tags all)
       (and_from (has_label t) (list_all has_label (filter (λ u. nat_lt t.y u.y) tags)) own (filtered (λ u. nat_lt t.y u.y) tags all))
-
-  not_false : (b : Bool) → not b ≡ false → b ≡ true
-  not_false true e = refl
-  not_false false e = cc
 
   led : (kind : TagKind) (y : ℕ) (o : Option ℕ) → leads_to_end f.function kind y o ≡ true → is_some o ≡ true
   led kind y None e = cc

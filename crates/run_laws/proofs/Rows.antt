@@ -37,16 +37,12 @@ use Rattle.path_rules.specs.declared.tag.Tag.{Tag as Mark}
 use Rattle.path_rules.specs.Tags.{is_untagged, lowest_tag, mark_kind, tagged, untagged, untouched}
 use Rattle.run_laws.proofs.Held.{AllFit, Fits, Has, all_fit, first_there, put_has, reads_all, reads_one, y_set_is, y_there}
 use Rattle.run_laws.proofs.Callees.{comes_back_with, export_called, no_raiser, same_number, target_called}
-use Rattle.run_laws.proofs.Landing.{HasPoint, IsCallee, IsLeft, Lands, lands_at, lands_on}
+use Rattle.run_laws.proofs.Landing.{HasPoint, IsCallee, IsLeft, Lands, lands_at, lands_on, not_false}
 use Rattle.run_laws.proofs.Lists.{AreArguments, arguments_there, index_set, only_shows, only_wide, registers_kept, length_kept}
 use Rattle.run_laws.proofs.Slots.{cleared_shown, marked_shown, new_shown, no_slots, none_shown_there, so_many_slots, trimmed_shown}
 use Rattle.run_laws.proofs.Tags.{kind_is, untouched_is, untouched_none}
 use Rattle.run_laws.specs.Formed.{has_labels, is_formed, is_known}
 use Rattle.run_laws.specs.Shown.{ShowsRegisters, ShowsStack, kind_of}
-
-not_false : (b : Bool) → not b ≡ false → b ≡ true
-not_false true e = refl
-not_false false e = cc
 
 pub all_left : {A : Type 0} (test : A → Bool) (xs ys : List A) → list_all test (xs ++ ys) ≡ true → list_all test xs ≡ true
 all_left test [] ys e = refl
