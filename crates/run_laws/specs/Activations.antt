@@ -1,4 +1,4 @@
--- How long an activation of a function is: it comes to no item twice (docs/BEAM.md, Paths).
+-- How long the path is that shows where a function is: it comes to no item twice (docs/BEAM.md, Paths).
 use Rattle.std.specs.Prelude.{◌≡◌, ℕ, suc, ◌<◌, List, length}
 use Rattle.paths.specs.Paths.{Free}
 use Rattle.beam_code.specs.declared.module.Module.{Module}
@@ -8,8 +8,8 @@ use Rattle.path_rules.specs.Points.{Point, graph}
 use Rattle.run_laws.specs.Formed.{AreChecked}
 use Rattle.run_laws.specs.Shown.{IsShown}
 
--- the rows since the entry, the moves of the path that shows where it is, are fewer than the items of the function, and
--- none of the points before was at this item
+-- the path makes fewer moves than the function has items, and none of the points before, from which moves lead on to
+-- this one, is at this item
 pub record IsShort (ms : List Module) (function : ℕ) (l : Local) (shown : IsShown ms function l) : Type 0 where
   pub rows : shown.moves < length shown.placed.function.items
   pub once : (n k : ℕ) (q : Point) → Free (graph ms shown.placed.function) n q → Onward (graph ms shown.placed.function) (suc k) q shown.point → q.item ≡ l.item → ⊥

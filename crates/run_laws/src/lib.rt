@@ -39,7 +39,8 @@ pub fn ranks_fall()
     ensures { RanksFall }
 {}
 
-/// A law: within one activation no item is met twice, so it has fewer rows than the function has items.
+/// A law: the path that shows where a function is comes to no item twice, and makes fewer moves than
+/// the function has items.
 pub fn activations_are_short()
     ensures { ActivationsAreShort }
 {}
