@@ -5,7 +5,7 @@ use Rattle.command_laws.specs.Settled.{IsSettled}
 use Rattle.hipe_core.specs.Answer.{Case, EndedBy, IsAnswer, IsOfImage, IsOfLength, IsOfModules, IsOfStage, IsOfText, IsOfWords}
 use Rattle.hipe_core.specs.Command.{Ends}
 use Rattle.hipe_core.specs.declared.ending.Ending.{Ending}
-use Rattle.hipe_core.specs.declared.ending.Ending.TheVariants.{Said, Usage, ArgsRefused, ModuleRefused, CheckRefused, ImageRefused, NotExported, CannotRead, CannotWrite, NoMemory, TooLong, NotBuilt}
+use Rattle.hipe_core.specs.declared.ending.Ending.TheVariants.{Said, Usage, ArgsRefused, ModuleRefused, CheckRefused, ImageRefused, NotExported, ArgsDoNotFit, CannotRead, CannotWrite, NoMemory, TooLong, NotBuilt}
 use Rattle.hipe_core.specs.Lines.{status_of}
 
 -- an ending with a cause in the words and the bytes
@@ -42,6 +42,7 @@ image_stands other k = absurd k
 words_stand : (e : Ending) → IsOfWords e → Stands 6 e
 words_stand Usage k = (tt, refl)
 words_stand (NotExported entry count) k = (tt, refl)
+words_stand ArgsDoNotFit k = (tt, refl)
 words_stand other k = absurd k
 
 length_stands : (e : Ending) → IsOfLength e → Stands 10 e
@@ -59,7 +60,7 @@ found_by Kind c status stands by =
 
 pub found_of : (c : Case) (status : ℕ) → IsAnswer c status → IsSettled status → Found c status
 found_of c zero a s = record { ending = Said 0; found = tt; cause = (a.done refl).cause; status_is = refl }
-found_of c (suc zero) a s = absurd (a.raised refl)
+found_of c (suc zero) a s = record { ending = Said 1; found = tt; cause = (a.raised refl).cause; status_is = refl }
 found_of c (suc (suc zero)) a s = record { ending = Said 2; found = tt; cause = (a.ended refl).cause; status_is = refl }
 found_of c (suc (suc (suc zero))) a s = found_by IsOfText c 3 text_stands (a.texts refl)
 found_of c (suc (suc (suc (suc zero)))) a s = found_by IsOfModules c 4 modules_stand (a.modules refl)

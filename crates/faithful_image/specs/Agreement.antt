@@ -1,26 +1,14 @@
 -- When an outcome of the machine, in words, is an outcome of the language, in terms (docs/MACHINE.md, Agreement).
-use Rattle.std.specs.Prelude.{ℕ, ◌≡◌, ◌+◌, ◌-◌, ◌/◌, List, take, Some, slice_get}
+use Rattle.std.specs.Prelude.{ℕ, ◌≡◌, List, Some, slice_get}
 use Rattle.beam_code.specs.State as b
 use Rattle.mode_switch.specs.declared.outcome.End.{End}
 use Rattle.mode_switch.specs.declared.outcome.End.TheVariants as e
 use Rattle.mode_switch.specs.declared.outcome.Outcome.{Outcome}
 use Rattle.mode_switch.specs.declared.outcome.Outcome.TheVariants.{Returned, Raised, Ended}
-use Rattle.mode_switch.specs.State.{Loaded, MixedState, Finish}
-use Rattle.sparc_code.specs.Step.{register}
-use Rattle.tagged_words.specs.declared.addresses.TheConstants.{HEAP_START}
+use Rattle.mode_switch.specs.State.{Loaded, Finish}
+use Rattle.mode_switch.specs.Store.{store_of}
 use Rattle.tagged_words.specs.Seen.{IsTreeOf}
 use Rattle.tagged_words.specs.Store.{Store}
-
--- the register of the heap top
-abbrev pub heap_top : MixedState → ℕ
-heap_top s = register s.regs 2
-
--- the heap words whose address lies below the heap top
-abbrev pub used_heap : MixedState → List ℕ
-used_heap s = take ((heap_top s - HEAP_START + 3) / 4) s.memory.heap.words
-
-abbrev pub store_of : Loaded → MixedState → Store
-store_of g s = record { literals = g.parts.literals; heap = used_heap s }
 
 -- the two ends have one name
 abbrev pub IsSameEnd : List (List ℕ) → End → b.End → Type 0

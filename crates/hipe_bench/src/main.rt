@@ -9,6 +9,7 @@ mod images;
 mod lists;
 mod memory;
 mod reading;
+mod runs;
 mod steps;
 
 use anyhow::{Context, Result, bail};
@@ -79,6 +80,7 @@ fn measured<F: Files>(alloc: Global, files: &mut F, words: &[String]) -> Result<
         "built_ins" => {
             gates::gates_passed(alloc, word(words, 1)?, number(words, 2)?, number(words, 3)?)
         }
+        "run_command" => runs::lists_returned(alloc, number(words, 1)?, number(words, 2)?),
         _ => bail!("no measure has this name"),
     }
 }
@@ -106,6 +108,7 @@ fn all<F: Files>(alloc: Global, files: &mut F) -> Result<String> {
     add(&mut lines, steps::steps_done(alloc, 100_000))?;
     add(&mut lines, blocks::words_moved(alloc, 1024, 2000, 1000))?;
     add_lists(alloc, &mut lines)?;
+    add(&mut lines, runs::lists_returned(alloc, 1000, 3))?;
     Ok(lines)
 }
 

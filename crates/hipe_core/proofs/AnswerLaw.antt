@@ -1,65 +1,56 @@
 -- From how a command ended to its answer.
-use Rattle.std.proofs.Common.{◌≡◌, ◌≢◌, ℕ, ◌≤◌, ◌⊎◌, inl, inr, Bool, true, false, not, nat_eq, is_some, Option, Some, None, List, [], refl, sym, ap, subst, ◌∙◌, arith}
-use Rattle.std.proofs.lemmas.Bool.Decides.{nat_tests}
+use Rattle.std.proofs.Common.{◌≡◌, ℕ, ◌<◌, ◌≤◌, inl, inr, true, is_some, Option, Some, None, List, [], refl, sym, ap, subst, ◌∙◌, arith}
 use Rattle.asm_text.specs.Entry.{entry_of}
 use Rattle.beam_code.specs.declared.call.Limits.{Limits}
-use Rattle.beam_profile.specs.declared.refusal.ModuleRefusal.{ModuleRefusal}
 use Rattle.beam_profile.specs.declared.refusal.ModuleRefusal.TheVariants as unread
 use Rattle.hipe_base.specs.Sink.{Seen}
-use Rattle.hipe_core.specs.Answer.{Case, EndedBy, EndedSo, IsAnswer, IsOfImage, IsOfLength, IsOfModules, IsOfReading, IsOfStage, IsOfText, IsOfWords}
+use Rattle.hipe_core.specs.Answer.{Case, EndedSo, IsAnswer, IsOfImage, IsOfLength, IsOfModules, IsOfReading, IsOfStage, IsOfText, IsOfWords}
 use Rattle.hipe_core.specs.Command.{Called, Effects, Ends, IsUntouched, RunsEntry, RunsFile, RunsWith, WritesOutcome, is_printed}
 use Rattle.hipe_core.specs.declared.ending.Ending.{Ending}
-use Rattle.hipe_core.specs.declared.ending.Ending.TheVariants.{Said, Usage, ArgsRefused, ModuleRefused, CheckRefused, ImageRefused, NotExported, CannotRead, CannotWrite, NoMemory, TooLong, NotBuilt}
+use Rattle.hipe_core.specs.declared.ending.Ending.TheVariants.{Said, Usage, ArgsRefused, ModuleRefused, CheckRefused, ImageRefused, NotExported, ArgsDoNotFit, CannotRead, CannotWrite, NoMemory, TooLong, NotBuilt}
 use Rattle.hipe_core.specs.Files.{IsQuiet}
-use Rattle.hipe_core.specs.Lines.{IsTold, status_of}
-use Rattle.hipe_core.specs.Telling.{CanWant, Finishes, IsEnding, IsSayable}
+use Rattle.hipe_core.specs.Lines.{status_of}
+use Rattle.hipe_core.specs.Telling.{CanWant, Finishes, IsSayable}
 use Rattle.hipe_core.specs.Words.{Asked, Nothing, Check, Compile, Run}
-use Rattle.beam_code.specs.declared.module.Module.{Module}
-use Rattle.faithful_image.specs.Line.{printed_line}
-use Rattle.image_format.specs.declared.parts.Parts.{Parts}
-use Rattle.mode_switch.specs.Call.{Call, call_of}
+use Rattle.mode_switch.specs.Call.{call_of}
 use Rattle.mode_switch.specs.Machine.{Ran, opened, ran}
 use Rattle.mode_switch.specs.declared.outcome.End.{End}
 use Rattle.mode_switch.specs.declared.outcome.End.TheVariants as end
 use Rattle.mode_switch.specs.declared.outcome.Outcome.{Outcome}
 use Rattle.mode_switch.specs.declared.outcome.Outcome.TheVariants.{Returned, Raised, Ended}
-use Rattle.mode_switch.specs.declared.text.TheConstants.{NOT_BUILT_STATUS}
-use Rattle.mode_switch.specs.State.{Loaded, MixedState}
-use Rattle.mode_switch.specs.Text.{end_text, said, value_text}
-use Rattle.tagged_words.specs.declared.kind.Class.{Class}
-use Rattle.tagged_words.specs.declared.kind.Class.TheVariants as class
+use Rattle.mode_switch.specs.declared.text.TheConstants.{MOST_PRINTED, RAISE_STATUS, VALUE_STATUS}
+use Rattle.mode_switch.specs.Store.{store_of}
+use Rattle.mode_switch.specs.Text.{IsLineIn, end_text, raise_head, term_line, value_head}
+use Rattle.tagged_words.specs.Store.{Store}
+use Rattle.word_walks.specs.Spelt.{Large, Meets, Spelling, Text, spelt}
 
--- ---- an output that was written has the status 0 or 2
+-- ---- an output that was written has the status 0, 1 or 2
 
 abbrev IsLow : ℕ → Type 0
-IsLow status = (status ≡ 0) ⊎ (status ≡ 2)
+IsLow status = status ≤ 2
 
 abbrev LowIf : List ℕ × ℕ → Type 0
 LowIf line = is_printed line ≡ true → IsLow line.1
 
-value_low : (c : Class) → LowIf (value_text c)
-value_low (class.Small i) e = inl refl
-value_low other e = absurd cc
+term_low : (head : List ℕ) (status : ℕ) (s : Spelling) → status ≤ 2 → LowIf (term_line head status s)
+term_low head status (Text text nodes) low e = low
+term_low head status Large low e = low
+term_low head status (Meets w) low e = omega arith
 
-end_low : (e : End) → LowIf (end_text e)
-end_low (end.NotProvided m f arity) h = absurd cc
-end_low (end.NotBuilt at) h = absurd cc
-end_low other h = inr refl
+end_low : (names : List (List ℕ)) (e : End) → LowIf (end_text names e)
+end_low names (end.NotBuilt at) h = absurd cc
+end_low names other h = omega arith
 
-pub said_low : (g : Loaded) (s : MixedState) (o : Outcome) → LowIf (said g s o)
-said_low g s (Returned w) = value_low _
-said_low g s (Raised class reason) = λ e. absurd cc
-said_low g s (Ended e) = end_low e
-
-printed_low : (ms : List Module) (parts : Parts) (call : Call) → LowIf (printed_line ms parts call)
-printed_low ms parts call =
-    let r : Ran = ran (opened ms parts call) in
-    said_low r.progress.loaded r.progress.state r.answer
+line_low : (store : Store) (names : List (List ℕ)) (o : Outcome) (line : List ℕ × ℕ) → IsLineIn store names o line → LowIf line
+line_low store names (Returned w) line says = subst LowIf says.2 (term_low value_head VALUE_STATUS (spelt MOST_PRINTED says.0) (omega arith))
+line_low store names (Raised class w) line says = subst LowIf says.2 (term_low (raise_head class) RAISE_STATUS (spelt MOST_PRINTED says.0) (omega arith))
+line_low store names (Ended e) line says = subst LowIf says (end_low names e)
 
 written_low : (status : ℕ) (bytes : List ℕ) (c : Called) (before after : Seen) → WritesOutcome true status bytes c before after → IsLow status
 written_low status bytes c before after w =
     let x = w.runs.exported in
-    let low : IsLow w.line.1 = subst LowIf (sym w.runs.is) (printed_low x.image.modules x.image.parts (call_of x.function c.args c.limits [])) w.printed in
+    let r : Ran = ran (opened x.image.modules x.image.parts (call_of x.function c.args c.limits [])) in
+    let low : IsLow w.line.1 = line_low (store_of r.progress.loaded r.progress.state) r.progress.loaded.names r.answer w.line w.runs.is w.printed in
     subst IsLow (sym (w.status_is refl)) low
 
 file_low : (status : ℕ) (c : Called) (x : Effects) → RunsFile (Said status) c x → IsLow status
@@ -71,14 +62,15 @@ entry_low status file entry args (Some names) limits x r = file_low status _ x r
 
 ends_low : (q : Asked) (status : ℕ) (x : Effects) → Ends q (Said status) x → IsLow status
 ends_low Nothing status x e = absurd cc
-ends_low (Check names) status x e = inl e.0
-ends_low (Compile chosen names) status x e = inl e.0
+ends_low (Check names) status x e = subst IsLow (sym e.0) (omega arith)
+ends_low (Compile chosen names) status x e = subst IsLow (sym e.0) (omega arith)
 ends_low (Run file entry args limits) status x e = entry_low status file entry args (entry_of entry) limits x e
 
 -- ---- what stays as it was where the line wants memory
 
 file_untouched : (e : Ending) (c : Called) (x : Effects) → CanWant e → RunsFile e c x → IsUntouched x
 file_untouched (Said status) c x w r = absurd w
+file_untouched ArgsDoNotFit c x w r = absurd w
 file_untouched CannotWrite c x w r = absurd w
 file_untouched NoMemory c x w r = absurd w
 file_untouched (CannotRead file) c x w r = r.2
@@ -122,49 +114,50 @@ known_by : (q : Asked) (e : Ending) (x : Effects) → Ends q e x → IsKnown e
 known_by q (Said status) x r = ends_low q status x r
 known_by q other x r = tt
 
-never : {A : Type 0} (n status : ℕ) → n ≢ 0 → n ≢ 2 → IsLow status → status ≡ n → A
-never n status zero two low is = absurd (elim low [ inl e ↦ zero (sym is ∙ e) | inr e ↦ two (sym is ∙ e) ])
+never : {A : Type 0} (n status : ℕ) → 2 < n → IsLow status → status ≡ n → A
+never n status high low is = absurd (omega (arith, is))
 
 of_text : (e : Ending) → IsKnown e → status_of e ≡ 3 → IsOfText e
-of_text (Said status) known is = never 3 status (omega arith) (omega arith) known is
+of_text (Said status) known is = never 3 status (omega arith) known is
 of_text (ArgsRefused e) known is = tt
 of_text (ModuleRefused file (unread.Text e)) known is = tt
 of_text other known is = absurd cc
 
 of_modules : (e : Ending) → IsKnown e → status_of e ≡ 4 → IsOfModules e
-of_modules (Said status) known is = never 4 status (omega arith) (omega arith) known is
+of_modules (Said status) known is = never 4 status (omega arith) known is
 of_modules (ModuleRefused file (unread.Text e)) known is = absurd cc
 of_modules (ModuleRefused file e) known is = tt
 of_modules (CheckRefused r) known is = tt
 of_modules other known is = absurd cc
 
 of_image : (e : Ending) → IsKnown e → status_of e ≡ 5 → IsOfImage e
-of_image (Said status) known is = never 5 status (omega arith) (omega arith) known is
+of_image (Said status) known is = never 5 status (omega arith) known is
 of_image (ImageRefused file e) known is = tt
 of_image (ModuleRefused file (unread.Text e)) known is = absurd cc
 of_image other known is = absurd cc
 
 of_words : (e : Ending) → IsKnown e → status_of e ≡ 6 → IsOfWords e
-of_words (Said status) known is = never 6 status (omega arith) (omega arith) known is
+of_words (Said status) known is = never 6 status (omega arith) known is
 of_words Usage known is = tt
 of_words (NotExported entry count) known is = tt
+of_words ArgsDoNotFit known is = tt
 of_words (ModuleRefused file (unread.Text e)) known is = absurd cc
 of_words other known is = absurd cc
 
 of_reading : (e : Ending) → IsKnown e → status_of e ≡ 7 → IsOfReading e
-of_reading (Said status) known is = never 7 status (omega arith) (omega arith) known is
+of_reading (Said status) known is = never 7 status (omega arith) known is
 of_reading (CannotRead file) known is = tt
 of_reading (ModuleRefused file (unread.Text e)) known is = absurd cc
 of_reading other known is = absurd cc
 
 of_length : (e : Ending) → IsKnown e → status_of e ≡ 10 → IsOfLength e
-of_length (Said status) known is = never 10 status (omega arith) (omega arith) known is
+of_length (Said status) known is = never 10 status (omega arith) known is
 of_length (TooLong file) known is = tt
 of_length (ModuleRefused file (unread.Text e)) known is = absurd cc
 of_length other known is = absurd cc
 
 of_stage : (e : Ending) → IsKnown e → status_of e ≡ 11 → IsOfStage e
-of_stage (Said status) known is = never 11 status (omega arith) (omega arith) known is
+of_stage (Said status) known is = never 11 status (omega arith) known is
 of_stage (NotBuilt file) known is = tt
 of_stage (ModuleRefused file (unread.Text e)) known is = absurd cc
 of_stage other known is = absurd cc
@@ -176,34 +169,28 @@ of_output (ModuleRefused file e) n low is = absurd (omega (arith, is))
 of_output other n low is = absurd (omega (arith, is))
 
 of_writing : (e : Ending) → IsKnown e → status_of e ≡ 8 → e ≡ CannotWrite
-of_writing (Said status) known is = never 8 status (omega arith) (omega arith) known is
+of_writing (Said status) known is = never 8 status (omega arith) known is
 of_writing CannotWrite known is = refl
 of_writing (ModuleRefused file (unread.Text e)) known is = absurd cc
 of_writing other known is = absurd cc
 
 of_memory : (e : Ending) → IsKnown e → status_of e ≡ 9 → e ≡ NoMemory
-of_memory (Said status) known is = never 9 status (omega arith) (omega arith) known is
+of_memory (Said status) known is = never 9 status (omega arith) known is
 of_memory NoMemory known is = refl
 of_memory (ModuleRefused file (unread.Text e)) known is = absurd cc
 of_memory other known is = absurd cc
 
 low_status : (e : Ending) → IsKnown e → status_of e ≤ 11
-low_status (Said status) known = elim known [ inl e ↦ omega (arith, e) | inr e ↦ omega (arith, e) ]
+low_status (Said status) known = omega arith
 low_status (ModuleRefused file (unread.Text e)) known = omega arith
 low_status (ModuleRefused file e) known = omega arith
 low_status other known = omega arith
-
-no_exception : (e : Ending) → IsKnown e → status_of e ≡ 1 → ⊥
-no_exception e known is = elim_said (of_output e 1 (omega arith) is)
-  where
-    elim_said : e ≡ Said 1 → ⊥
-    elim_said same = never 1 1 (omega arith) (omega arith) (subst IsKnown same known) refl
 
 answer_by : (c : Case) (e : Ending) (status : ℕ) → EndedSo c e → IsKnown e → status ≡ status_of e → IsQuiet c.effects.files → IsAnswer c status
 answer_by c e status so known is quiet =
     record {
       done = λ n. subst (EndedSo c) (of_output e 0 (omega arith) (sym is ∙ n)) so;
-      raised = λ n. no_exception e known (sym is ∙ n);
+      raised = λ n. subst (EndedSo c) (of_output e 1 (omega arith) (sym is ∙ n)) so;
       ended = λ n. subst (EndedSo c) (of_output e 2 (omega arith) (sym is ∙ n)) so;
       texts = λ n. record { ending = e; kind = of_text e known (sym is ∙ n); so = so };
       modules = λ n. record { ending = e; kind = of_modules e known (sym is ∙ n); so = so };

@@ -1,12 +1,11 @@
 -- Units of items, functions and modules, and what is said of them.
-use Rattle.std.proofs.Common.{◌≡◌, ℕ, zero, suc, ◌+◌, ◌-◌, ◌^◌, ◌<◌, ◌≤◌, List, [], ◌∷◌, ◌++◌, length, get_or, drop, map, refl, sym, ap, ◌∙◌, arith, add-one, drop-cons}
+use Rattle.std.proofs.Common.{◌≡◌, ℕ, zero, suc, ◌+◌, ◌-◌, ◌^◌, ◌<◌, ◌≤◌, List, [], ◌∷◌, ◌++◌, length, get_or, drop, map, sym, ap, ◌∙◌, arith, add-one, drop-cons}
 use Rattle.beam_code.specs.declared.module.Function.{Function}
 use Rattle.beam_code.specs.declared.module.Module.{Module}
 use Rattle.beam_code.specs.Function.{Placed, all_functions}
 use Rattle.beam_code.specs.Lined.{Lined}
 use Rattle.beam_code.specs.Uses.{units}
 use Rattle.hipe_core.specs.Checking.{ok_line, ok_lines, units_among}
-use Rattle.path_rules.specs.declared.limits.TheConstants.{MOST_UNITS}
 use Rattle.path_rules.specs.Profile.{InProfile, units_in, units_of}
 use Rattle.path_rules.specs.Sites.{placed_in}
 

@@ -1,80 +1,98 @@
 -- A run on what is compiled of texts prints what these mean.
-use Rattle.std.proofs.Common.{◌≡◌, ◌≢◌, ℕ, true, List, [], length, Some, refl, ap, subst, sym, ◌∙◌, arith}
-use Rattle.std.proofs.lemmas.Bool.Decides.{nat_tests}
-use Rattle.beam_code.specs.declared.call.Limits.{Limits}
+use Rattle.std.proofs.Common.{◌≡◌, ◌≢◌, ℕ, true, List, [], length, Some, refl, ap, subst, sym, ◌∙◌}
 use Rattle.beam_code.specs.declared.module.Module.{Module}
 use Rattle.beam_code.specs.Function.{all_functions, exported_number}
+use Rattle.beam_code.specs.State as b
 use Rattle.faithful_image.proofs.LineLaw.{faithful_runs_print_their_meaning}
-use Rattle.faithful_image.specs.Line.{MeansLine, printed_line}
+use Rattle.faithful_image.specs.Line.{IsPrinted, MeansLine, meant_end, meant_line}
+use Rattle.faithful_image.specs.Meaning.{IsOutcome, IsSound, meaning_of}
 use Rattle.hipe_core.proofs.ReadLaw.{image_is_read, what_is_read}
-use Rattle.hipe_core.specs.Command.{Called, RunsTo, is_printed}
-use Rattle.hipe_core.specs.Meaning.{CompiledRunsPrintTheirMeaning, CompiledImagesAreRead, IsCompiled, IsReadAs}
-use Rattle.image_format.specs.declared.parts.Parts.{Parts}
-use Rattle.mode_switch.specs.Call.{Call, IsCallOf, IsInRange, call_of}
-use Rattle.mode_switch.specs.declared.text.TheConstants.{NOT_BUILT_STATUS}
-use Rattle.module_texts.proofs.Lists.{are_of_their_texts}
-use Rattle.term_tree.specs.declared.term.Term.{Term}
-use Rattle.trivial_code.proofs.Law.{trivial_runs_are_printed}
-use Rattle.trivial_code.proofs.Checked.{trivial_functions_are_ready}
+use Rattle.hipe_core.specs.Command.{is_printed}
+use Rattle.hipe_core.specs.Meaning.{CompiledRunsPrintTheirMeaning, CompiledImagesAreRead, IsCompiled, IsReadAs, ModulesMean}
+use Rattle.mode_switch.specs.Call.{Call, IsCallOf, call_of}
+use Rattle.mode_switch.specs.Machine.{Ran, opened, ran}
+use Rattle.mode_switch.specs.declared.outcome.Outcome.{Outcome}
+use Rattle.mode_switch.specs.declared.outcome.Outcome.TheVariants.{Returned, Raised, Ended}
+use Rattle.mode_switch.specs.declared.text.TheConstants.{MOST_PRINTED, RAISE_STATUS, VALUE_STATUS}
+use Rattle.mode_switch.specs.Store.{store_of}
+use Rattle.mode_switch.specs.Text.{IsLineIn, end_text, raise_head, term_line, value_head}
+use Rattle.native_link.specs.Checking.{Linked, linked}
+use Rattle.small_step.specs.Stage.{Stage, Done}
+use Rattle.tagged_words.proofs.SeenLaws.{something_seen}
+use Rattle.tagged_words.specs.Look.{address_end}
+use Rattle.tagged_words.specs.Store.{Store}
 use Rattle.trivial_code.specs.Compiled.{compiled, numbers_from}
+use Rattle.word_walks.specs.Spelt.{spelt}
 
-printed_by : (line : List ℕ × ℕ) → line.1 ≢ NOT_BUILT_STATUS → is_printed line ≡ true
-printed_by line built = grind (arith, nat_tests)
+-- what a call means, where it is no stuck row, has a line of today
+meant_end_printed : (e : b.End) → e ≢ b.Stuck → is_printed (meant_end e) ≡ true
+meant_end_printed b.Stuck fine = absurd (fine refl)
+meant_end_printed other fine = refl
 
--- a call without arguments is one that the image has to answer
-no_args_fit : (ms : List Module) (owner name : List ℕ) (function : ℕ) (limits : Limits) → IsInRange limits → exported_number ms owner name 0 ≡ Some function → IsCallOf ms (call_of function [] limits [])
-no_args_fit ms owner name function limits range exported =
-    record { owner = owner; name = name; exported = exported; terms = tt; heap = omega arith; limits = range; words = tt; no_junk = refl }
+meant_printed : (o : b.Outcome) → o ≢ b.Ended b.Stuck → is_printed (meant_line o) ≡ true
+meant_printed (b.Returned v) fine = refl
+meant_printed (b.Raised class v) fine = refl
+meant_printed (b.Ended e) fine = meant_end_printed e (λ same. fine (ap b.Ended same))
+
+sound_at : (s : Stage b.BeamState b.Finish) (f : b.Finish) → IsOutcome s → s ≡ Done f → IsSound f
+sound_at s f sound is = subst IsOutcome is sound
 
 module _ (texts : List (List ℕ)) (bytes : List ℕ) (made : IsCompiled texts bytes) where
   abbrev ms : List Module
   ms = made.modules
 
-  -- what the image prints of a call without arguments
-  record Prints (parts : Parts) (call : Call) : Type 0 where
-    means : MeansLine ms call (printed_line ms parts call)
-    printed : is_printed (printed_line ms parts call) ≡ true
+  -- a line that the image prints of a call
+  record Prints (call : Call) (line : List ℕ × ℕ) : Type 0 where
+    means : MeansLine ms call line
+    printed : is_printed line ≡ true
 
-  image_prints : (call : Call) → IsCallOf ms call → call.args ≡ [] → Prints (compiled ms) call
-  image_prints call fits none =
-      let ready = trivial_functions_are_ready ms made.profiled.profile (are_of_their_texts texts ms made.profiled.read) made.trivial in
-      record {
-        means = faithful_runs_print_their_meaning ms (numbers_from 0 (length (all_functions ms))) (compiled ms) made.image.is.faithful call fits;
-        printed = printed_by (printed_line ms (compiled ms) call) (trivial_runs_are_printed ms (numbers_from 0 (length (all_functions ms))) (compiled ms) made.image.is.faithful ready call fits none);
-      }
+  image_prints : (call : Call) → IsCallOf ms call → (line : List ℕ × ℕ) → IsPrinted ms (compiled ms) call line → Prints call line
+  image_prints call fits line printed =
+      let means = faithful_runs_print_their_meaning ms (numbers_from 0 (length (all_functions ms))) (compiled ms) made.image.is.faithful call fits line printed in
+      let sound = sound_at (meaning_of ms call) means.finish (made.image.is.meanings call fits).outcome means.means in
+      record { means = means; printed = ap is_printed (sym means.is) ∙ meant_printed means.finish.outcome sound }
 
 pub compiled_runs_print_their_meaning : CompiledRunsPrintTheirMeaning
-compiled_runs_print_their_meaning texts bytes c line range made run =
-    let ms : List Module = made.modules in
-    let x = run.exported in
-    let found = what_is_read texts bytes made x.image.parts x.image.modules x.read.0 in
-    let call : Call = call_of x.function [] c.limits [] in
-    let count : length c.args ≡ 0 = ap (λ (args : List Term). length args) run.no_args in
-    let exported : exported_number ms c.owner c.name 0 ≡ Some x.function =
-    ap (λ n. exported_number ms c.owner c.name n) (sym count) ∙ ap (λ ns. exported_number ns c.owner c.name (length c.args)) (sym found.1) ∙ x.exported in
-    let p = image_prints texts bytes made call (no_args_fit ms c.owner c.name x.function c.limits range exported) refl in
-    let same : printed_line ms (compiled ms) call ≡ line =
-    ap (λ ns. printed_line ns (compiled ms) call) (sym found.1)
-    ∙ ap (λ q. printed_line x.image.modules q call) (sym found.0)
-    ∙ ap (λ (args : List Term). printed_line x.image.modules x.image.parts (call_of x.function args c.limits [])) (sym run.no_args)
-    ∙ sym run.is in (
-      record { function = x.function; exported = exported; means = subst (MeansLine ms call) same p.means },
-      ap is_printed (sym same) ∙ p.printed,
-    )
+compiled_runs_print_their_meaning texts bytes c line made run = go run.exported.image found run.exported.function run.exported.exported run.call run.is
+  where
+    found : run.exported.image ≡ linked (compiled made.modules) made.modules
+    found = what_is_read texts bytes made run.exported.image run.exported.read
 
--- and each exported function without arguments is run
+    go : (l : Linked) → l ≡ linked (compiled made.modules) made.modules → (function : ℕ) → exported_number l.modules c.owner c.name (length c.args) ≡ Some function
+        → IsCallOf l.modules (call_of function c.args c.limits []) → IsPrinted l.modules l.parts (call_of function c.args c.limits []) line
+        → ModulesMean made.modules c line × (is_printed line ≡ true)
+    go l same function exported call printed =
+        let now : List Module = made.modules in
+        let fits : IsCallOf now (call_of function c.args c.limits []) = subst (λ (x : Linked). IsCallOf x.modules (call_of function c.args c.limits [])) same call in
+        let p = image_prints texts bytes made (call_of function c.args c.limits []) fits line (subst (λ (x : Linked). IsPrinted x.modules x.parts (call_of function c.args c.limits []) line) same printed) in
+        (record { function = function; exported = subst (λ (x : Linked). exported_number x.modules c.owner c.name (length c.args) ≡ Some function) same exported; means = p.means }, p.printed)
+
+-- something is printed of each outcome
+some_line : (store : Store) (names : List (List ℕ)) (o : Outcome) → (line : List ℕ × ℕ) × IsLineIn store names o line
+some_line store names (Returned w) =
+    let v = something_seen store names address_end w in
+    (term_line value_head VALUE_STATUS (spelt MOST_PRINTED v.0), (v.0, v.1, refl))
+some_line store names (Raised class w) =
+    let v = something_seen store names address_end w in
+    (term_line (raise_head class) RAISE_STATUS (spelt MOST_PRINTED v.0), (v.0, v.1, refl))
+some_line store names (Ended e) = (end_text names e, refl)
+
+-- and each call of an exported function that fits is run
 pub compiled_images_are_read : CompiledImagesAreRead
 compiled_images_are_read texts bytes made =
     let read : IsReadAs made.modules bytes = image_is_read texts bytes made in
     record {
       read = read;
-      runs = λ file entry owner name limits function range exported.
+      runs = λ c function exported fits.
+          let call : Call = call_of function c.args c.limits [] in
+          let r : Ran = ran (opened read.linked.modules read.linked.parts call) in
+          let some = some_line (store_of r.progress.loaded r.progress.state) r.progress.loaded.names r.answer in
           record {
-            line = printed_line read.linked.modules read.linked.parts (call_of function [] limits []);
+            line = some.0;
             runs = record {
-              exported = record { image = read.linked; read = read.read; function = function; exported = ap (λ ns. exported_number ns owner name 0) read.modules ∙ exported };
-              no_args = refl;
-              is = refl;
+              exported = record { image = read.linked; read = read.read; function = function; exported = ap (λ ns. exported_number ns c.owner c.name (length c.args)) read.modules ∙ exported };
+              call = subst (λ ns. IsCallOf ns call) (sym read.modules) fits;
+              is = some.1;
             };
           };
     }

@@ -1,11 +1,11 @@
 -- The answer of the program: each status with its cause, what standard output and standard error got, and what stays
 -- untouched (docs/COMMANDS.md, Statuses).
-use Rattle.std.specs.Prelude.{ℕ, ◌≡◌, ◌≤◌, Bool}
+use Rattle.std.specs.Prelude.{ℕ, ◌≡◌, ◌≤◌}
 use Rattle.beam_profile.specs.declared.refusal.ModuleRefusal.TheVariants as unread
 use Rattle.hipe_base.specs.Sink.{Seen}
 use Rattle.hipe_core.specs.Command.{Effects, Ends}
 use Rattle.hipe_core.specs.declared.ending.Ending.{Ending}
-use Rattle.hipe_core.specs.declared.ending.Ending.TheVariants.{Said, Usage, ArgsRefused, ModuleRefused, CheckRefused, ImageRefused, NotExported, CannotRead, CannotWrite, NoMemory, TooLong, NotBuilt}
+use Rattle.hipe_core.specs.declared.ending.Ending.TheVariants.{Said, Usage, ArgsRefused, ModuleRefused, CheckRefused, ImageRefused, NotExported, ArgsDoNotFit, CannotRead, CannotWrite, NoMemory, TooLong, NotBuilt}
 use Rattle.hipe_core.specs.Files.{IsQuiet}
 use Rattle.hipe_core.specs.Lines.{IsTold}
 use Rattle.hipe_core.specs.Words.{Asked}
@@ -30,6 +30,7 @@ IsOfImage e = ⊥
 abbrev pub IsOfWords : Ending → Type 0
 IsOfWords Usage = Unit {0}
 IsOfWords (NotExported entry count) = Unit {0}
+IsOfWords ArgsDoNotFit = Unit {0}
 IsOfWords e = ⊥
 
 abbrev pub IsOfReading : Ending → Type 0
@@ -68,16 +69,16 @@ pub record EndedBy (Kind : Ending → Type 0) (c : Case) : Type 0 where
   pub so : EndedSo c ending
 
 pub record IsAnswer (c : Case) (status : ℕ) : Type 0 where
-  -- the output was written, and nothing to standard error: all is done, or the run gave a value; no run gives an
-  -- exception that is printed yet; or the run came to another end
+  -- the output was written, and nothing to standard error: all is done, or the run gave a value; the run gave an
+  -- exception; or it came to another end
   pub done : status ≡ 0 → EndedSo c (Said 0)
-  pub raised : status ≡ 1 → ⊥
+  pub raised : status ≡ 1 → EndedSo c (Said 1)
   pub ended : status ≡ 2 → EndedSo c (Said 2)
   -- a text or the arguments are refused; a module or the modules together are; the image is
   pub texts : status ≡ 3 → EndedBy IsOfText c
   pub modules : status ≡ 4 → EndedBy IsOfModules c
   pub image : status ≡ 5 → EndedBy IsOfImage c
-  -- the words are no command, or no such function is exported
+  -- the words are no command, or no such function is exported, or the arguments do not fit the heap
   pub words : status ≡ 6 → EndedBy IsOfWords c
   -- a file could not be read; the output could not be written; there was not enough memory; files are too long
   pub unreadable : status ≡ 7 → EndedBy IsOfReading c

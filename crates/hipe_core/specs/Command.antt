@@ -1,5 +1,5 @@
 -- What a command may come to, by what its words ask and its files hold (docs/COMMANDS.md).
-use Rattle.std.specs.Prelude.{ℕ, ◌≡◌, ◌<◌, ◌≤◌, ◌⊎◌, Bool, true, false, Option, Some, None, Ok, Err, List, [], length, nat_eq, not, slice_get}
+use Rattle.std.specs.Prelude.{ℕ, ◌≡◌, ◌≤◌, Bool, true, false, Option, Some, None, Ok, Err, List, [], length, nat_eq, not, slice_get}
 use Rattle.asm_text.specs.Entry.{entry_of}
 use Rattle.asm_text.specs.Reading.{arguments}
 use Rattle.text_forms.specs.declared.refusal.TextRefusal.{TextRefusal}
@@ -7,20 +7,21 @@ use Rattle.text_forms.specs.declared.refusal.TextRefusal.TheVariants as text
 use Rattle.beam_code.specs.declared.call.Limits.{Limits}
 use Rattle.beam_code.specs.declared.module.Module.{Module}
 use Rattle.beam_code.specs.Function.{exported_number}
-use Rattle.faithful_image.specs.Line.{printed_line}
+use Rattle.faithful_image.specs.Line.{IsPrinted}
 use Rattle.hipe_base.specs.Count.{RoseBy}
 use Rattle.hipe_base.specs.Files.{HoldsFile, FilesFailed}
 use Rattle.hipe_base.specs.Reading.{IsLonger}
 use Rattle.hipe_base.specs.Sink.{Seen}
 use Rattle.hipe_core.specs.Checking.{ok_lines}
 use Rattle.hipe_core.specs.declared.ending.Ending.{Ending}
-use Rattle.hipe_core.specs.declared.ending.Ending.TheVariants.{Said, Usage, ArgsRefused, ImageRefused, NotExported, CannotRead, CannotWrite, NoMemory, TooLong, NotBuilt}
+use Rattle.hipe_core.specs.declared.ending.Ending.TheVariants.{Said, Usage, ArgsRefused, ImageRefused, NotExported, ArgsDoNotFit, CannotRead, CannotWrite, NoMemory, TooLong, NotBuilt}
 use Rattle.hipe_core.specs.Files.{AreChecked, Course, FilesEnd}
 use Rattle.hipe_core.specs.Image.{IsImageOf}
 use Rattle.hipe_core.specs.Saying.{Says}
 use Rattle.hipe_core.specs.Words.{Asked, Nothing, Check, Compile, Run}
 use Rattle.image_format.specs.declared.limits.TheConstants.{MOST_IMAGE_BYTES}
-use Rattle.mode_switch.specs.Call.{call_of}
+use Rattle.mode_switch.specs.Call.{IsCallOf, call_of}
+use Rattle.mode_switch.specs.Machine.{DoNotFit}
 use Rattle.mode_switch.specs.declared.text.TheConstants.{NOT_BUILT_STATUS}
 use Rattle.native_link.specs.Checking.{Linked}
 use Rattle.native_link.specs.declared.refusal.ImageRefusal.{ImageRefusal}
@@ -105,11 +106,11 @@ pub record IsExported (bytes : List ℕ) (c : Called) : Type 0 where
   pub function : ℕ
   pub exported : function_of image c ≡ Some function
 
--- the run of the call has this line, with its status
+-- the arguments fit, and the run of the call has this line, with its status
 pub record RunsTo (bytes : List ℕ) (c : Called) (line : List ℕ × ℕ) : Type 0 where
   pub exported : IsExported bytes c
-  pub no_args : c.args ≡ []
-  pub is : line ≡ printed_line exported.image.modules exported.image.parts (call_of exported.function c.args c.limits [])
+  pub call : IsCallOf exported.image.modules (call_of exported.function c.args c.limits [])
+  pub is : IsPrinted exported.image.modules exported.image.parts (call_of exported.function c.args c.limits []) line
 
 -- whether an outcome is printed today
 abbrev pub is_printed : List ℕ × ℕ → Bool
@@ -123,20 +124,20 @@ pub record WritesOutcome (whole : Bool) (status : ℕ) (bytes : List ℕ) (c : C
   pub status_is : whole ≡ true → status ≡ line.1
   pub said : Says whole line.0 before after
 
--- what this stage does not do: an image with literals, roots or descriptors, a call with arguments, an outcome that is
--- not printed yet
+-- what this stage does not do: an outcome that is not printed yet
 abbrev pub IsNotBuilt : List ℕ → Called → Type 0
-IsNotBuilt bytes c =
-    Answers bytes (Err image.NotBuilt)
-    ⊎ ((IsExported bytes c × (0 < length c.args)) ⊎ ((line : List ℕ × ℕ) × RunsTo bytes c line × (is_printed line ≡ false)))
+IsNotBuilt bytes c = (line : List ℕ × ℕ) × RunsTo bytes c line × (is_printed line ≡ false)
 
 -- no such function is exported
 abbrev pub IsNotExported : List ℕ → Called → Type 0
 IsNotExported bytes c = (l : Linked) × Answers bytes (Ok l) × (function_of l c ≡ None)
 
+-- the function is exported, and the words of the arguments pass the limit of the heap
+abbrev pub IsUnfit : List ℕ → Called → Type 0
+IsUnfit bytes c = (l : Linked) × Answers bytes (Ok l) × DoNotFit l.modules c.owner c.name c.args c.limits
+
 -- the image is refused for a cause of its own
 abbrev pub IsImageRefused : List ℕ → ImageRefusal → Type 0
-IsImageRefused bytes image.NotBuilt = ⊥
 IsImageRefused bytes (image.Memory e) = ⊥
 IsImageRefused bytes e = Answers bytes (Err e)
 
@@ -146,6 +147,7 @@ RunsBytes (Said status) bytes c before after = WritesOutcome true status bytes c
 RunsBytes CannotWrite bytes c before after = WritesOutcome false 0 bytes c before after
 RunsBytes (ImageRefused file e) bytes c before after = (file.now ≡ c.file) × IsImageRefused bytes e × (after ≡ before)
 RunsBytes (NotExported entry count) bytes c before after = (entry.now ≡ c.entry) × (count ≡ length c.args) × IsNotExported bytes c × (after ≡ before)
+RunsBytes ArgsDoNotFit bytes c before after = IsUnfit bytes c × (after ≡ before)
 RunsBytes (NotBuilt file) bytes c before after = (file.now ≡ c.file) × IsNotBuilt bytes c × (after ≡ before)
 RunsBytes NoMemory bytes c before after = after ≡ before
 RunsBytes e bytes c before after = ⊥

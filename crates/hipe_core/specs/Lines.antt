@@ -17,7 +17,7 @@ use Rattle.native_link.specs.declared.refusal.ImageRefusal.{ImageRefusal}
 use Rattle.native_link.specs.declared.refusal.ImageRefusal.TheVariants as image
 use Rattle.hipe_base.specs.Sink.{Seen}
 use Rattle.hipe_core.specs.declared.ending.Ending.{Ending}
-use Rattle.hipe_core.specs.declared.ending.Ending.TheVariants.{Said, Usage, ArgsRefused, ModuleRefused, CheckRefused, ImageRefused, NotExported, CannotRead, CannotWrite, NoMemory, TooLong, NotBuilt}
+use Rattle.hipe_core.specs.declared.ending.Ending.TheVariants.{Said, Usage, ArgsRefused, ModuleRefused, CheckRefused, ImageRefused, NotExported, ArgsDoNotFit, CannotRead, CannotWrite, NoMemory, TooLong, NotBuilt}
 use Rattle.hipe_core.specs.Saying.{Says}
 use Rattle.term_tree.specs.Text.{atom_text}
 
@@ -34,6 +34,7 @@ status_of (CheckRefused r) = 4
 status_of (ImageRefused file e) = 5
 status_of Usage = 6
 status_of (NotExported entry count) = 6
+status_of ArgsDoNotFit = 6
 status_of (CannotRead file) = 7
 status_of CannotWrite = 8
 status_of NoMemory = 9
@@ -115,7 +116,6 @@ abbrev pub image_line : List ℕ → ImageRefusal → List ℕ
 image_line file (image.Field f at) = image_with file (flaw_name f ++ codes " at " ++ decimal at)
 image_line file (image.Module index e) = image_with file (codes "module " ++ decimal index)
 image_line file (image.Check r) = image_with file (codes "check")
-image_line file image.NotBuilt = not_built_line file
 image_line file (image.Memory e) = memory_line
 
 abbrev pub entry_text : Option (List ℕ × List ℕ) → ℕ → List ℕ
@@ -130,6 +130,7 @@ line_of (ModuleRefused file e) = module_line file.now e
 line_of (CheckRefused r) = check_line r
 line_of (ImageRefused file e) = image_line file.now e
 line_of (NotExported entry count) = codes "hipe: not exported " ++ entry_text (entry_of entry.now) count ++ codes "\n"
+line_of ArgsDoNotFit = codes "hipe: arguments do not fit\n"
 line_of (CannotRead file) = codes "hipe: cannot read " ++ file.now ++ codes "\n"
 line_of CannotWrite = codes "hipe: cannot write\n"
 line_of NoMemory = memory_line

@@ -1,13 +1,12 @@
 -- The line that texts mean of a call, and the reading of what is compiled of them (docs/COMMANDS.md, run; docs/MACHINE.md, Outcomes).
-use Rattle.std.specs.Prelude.{ℕ, ◌≡◌, Some, Ok, Err, List, [], true}
+use Rattle.std.specs.Prelude.{ℕ, ◌≡◌, Some, Ok, Err, List, [], length, true}
 use Rattle.std.specs.declared.alloc.AllocError.{AllocError}
-use Rattle.beam_code.specs.declared.call.Limits.{Limits}
 use Rattle.beam_code.specs.declared.module.Module.{Module}
 use Rattle.beam_code.specs.Function.{exported_number}
 use Rattle.faithful_image.specs.Line.{MeansLine}
 use Rattle.hipe_core.specs.Command.{Called, RunsTo, is_printed}
 use Rattle.hipe_core.specs.Image.{IsImageOf}
-use Rattle.mode_switch.specs.Call.{IsInRange, call_of}
+use Rattle.mode_switch.specs.Call.{IsCallOf, call_of}
 use Rattle.module_texts.specs.Texts.{AreProfiled}
 use Rattle.native_link.specs.Checking.{Linked}
 use Rattle.native_link.specs.declared.refusal.ImageRefusal.{ImageRefusal}
@@ -22,17 +21,17 @@ pub record IsCompiled (texts : List (List ℕ)) (bytes : List ℕ) : Type 0 wher
   pub trivial : are_trivial modules ≡ true
   pub image : IsImageOf modules bytes
 
--- the modules export the function, and a call of it without arguments means this line
-pub record ModulesMean (ms : List Module) (owner name : List ℕ) (limits : Limits) (line : List ℕ × ℕ) : Type 0 where
+-- the modules export the function, and the call of it means this line
+pub record ModulesMean (ms : List Module) (c : Called) (line : List ℕ × ℕ) : Type 0 where
   pub function : ℕ
-  pub exported : exported_number ms owner name 0 ≡ Some function
-  pub means : MeansLine ms (call_of function [] limits []) line
+  pub exported : exported_number ms c.owner c.name (length c.args) ≡ Some function
+  pub means : MeansLine ms (call_of function c.args c.limits []) line
 
 -- a run on what is compiled of texts prints what these mean
 abbrev pub CompiledRunsPrintTheirMeaning : Type 0
 CompiledRunsPrintTheirMeaning =
-    (texts : List (List ℕ)) (bytes : List ℕ) (c : Called) (line : List ℕ × ℕ) → IsInRange c.limits → (made : IsCompiled texts bytes) → RunsTo bytes c line
-    → ModulesMean made.modules c.owner c.name c.limits line × (is_printed line ≡ true)
+    (texts : List (List ℕ)) (bytes : List ℕ) (c : Called) (line : List ℕ × ℕ) → (made : IsCompiled texts bytes) → RunsTo bytes c line
+    → ModulesMean made.modules c line × (is_printed line ≡ true)
 
 -- the bytes are read as an image of these modules, and nothing but want of memory keeps them from being read
 pub record IsReadAs (ms : List Module) (bytes : List ℕ) : Type 0 where
@@ -41,20 +40,18 @@ pub record IsReadAs (ms : List Module) (bytes : List ℕ) : Type 0 where
   pub modules : linked.modules ≡ ms
   pub refused : (e : ImageRefusal) → Answers bytes (Err e) → (want : AllocError) × (e ≡ image.Memory want)
 
-abbrev pub without_args : List ℕ → List ℕ → List ℕ → List ℕ → Limits → Called
-without_args file entry owner name limits = record { file = file; entry = entry; owner = owner; name = name; args = []; limits = limits }
-
--- a run of a call without arguments comes to a line
+-- a run of a call comes to a line
 pub record IsRun (bytes : List ℕ) (c : Called) : Type 0 where
   pub line : List ℕ × ℕ
   pub runs : RunsTo bytes c line
 
--- the bytes are read, and each function that the modules export without arguments is run, under all limits in range
+-- the bytes are read, and each call of a function that the modules export is run, with terms that fit the heap as
+-- arguments, under all limits in range
 pub record IsRead (ms : List Module) (bytes : List ℕ) : Type 0 where
   pub read : IsReadAs ms bytes
   pub runs :
-      (file entry owner name : List ℕ) (limits : Limits) (function : ℕ) → IsInRange limits → exported_number ms owner name 0 ≡ Some function
-      → IsRun bytes (without_args file entry owner name limits)
+      (c : Called) (function : ℕ) → exported_number ms c.owner c.name (length c.args) ≡ Some function → IsCallOf ms (call_of function c.args c.limits [])
+      → IsRun bytes c
 
 -- what is compiled of texts is read
 abbrev pub CompiledImagesAreRead : Type 0

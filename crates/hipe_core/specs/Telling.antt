@@ -3,7 +3,7 @@ use Rattle.std.specs.Prelude.{ℕ, ◌≡◌, ◌⊎◌, true, is_some}
 use Rattle.asm_text.specs.Entry.{entry_of}
 use Rattle.hipe_base.specs.Sink.{Seen}
 use Rattle.hipe_core.specs.declared.ending.Ending.{Ending}
-use Rattle.hipe_core.specs.declared.ending.Ending.TheVariants.{Said, Usage, NotExported, CannotWrite, NoMemory}
+use Rattle.hipe_core.specs.declared.ending.Ending.TheVariants.{Said, Usage, NotExported, ArgsDoNotFit, CannotWrite, NoMemory}
 use Rattle.hipe_core.specs.Lines.{IsTold, status_of}
 
 -- an entry that is named is one
@@ -15,6 +15,7 @@ IsSayable e = Unit {0}
 abbrev pub CanWant : Ending → Type 0
 CanWant (Said status) = ⊥
 CanWant Usage = ⊥
+CanWant ArgsDoNotFit = ⊥
 CanWant CannotWrite = ⊥
 CanWant NoMemory = ⊥
 CanWant (NotExported entry count) = is_some (entry_of entry.now) ≡ true

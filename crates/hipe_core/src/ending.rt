@@ -22,6 +22,8 @@ pub enum Ending<'a> {
     ImageRefused(&'a str, ImageRefusal),
     /// The function with this entry and so many arguments is not exported.
     NotExported(&'a str, usize),
+    /// The words of the arguments pass the limit of the heap.
+    ArgsDoNotFit,
     /// This file could not be read.
     CannotRead(&'a str),
     /// The output could not be written.

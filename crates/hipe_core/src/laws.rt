@@ -10,7 +10,7 @@ pub fn compiled_runs_print_their_meaning()
 {}
 
 /// A law: the image that is compiled of texts is read as one of their modules, unless memory is
-/// wanting; and each function that these export without arguments is run.
+/// wanting; and each call that fits of a function that these export is run.
 pub fn compiled_images_are_read()
     ensures { CompiledImagesAreRead }
 {}

@@ -1,14 +1,15 @@
 //! A call is run on an image.
 
 ghost use Rattle.asm_text.specs.Entry.{entry_of};
-ghost use Rattle.faithful_image.specs.Line.{line_of};
 ghost use Rattle.hipe_core.specs.Command.{RunsBytes, RunsEntry, RunsFile, RunsWith, effects};
 ghost use Rattle.hipe_core.specs.Files.{IsQuiet, course};
-ghost use Rattle.hipe_core.specs.Running.{EndsArgs, EndsImage, RunsOpened, SaysLine, called};
+ghost use Rattle.hipe_core.specs.Running.{EndsArgs, EndsImage, RunsOpened, SaysLine, SaysRun, called};
 ghost use Rattle.image_format.specs.declared.limits.TheConstants.{MOST_IMAGE_BYTES};
 ghost use Rattle.mode_switch.specs.Call.{IsInRange};
 ghost use Rattle.mode_switch.specs.Machine.{ran};
-ghost use Rattle.std.specs.Prelude.{◌≡◌, ◌≤◌, None, Some, is_some, length, string_bytes, true};
+ghost use Rattle.std.specs.List.{list_all};
+ghost use Rattle.std.specs.Prelude.{◌≡◌, ◌≤◌, IsTrue, None, Some, is_some, length, string_bytes, true};
+ghost use Rattle.term_tree.specs.Term.{is_canonical};
 
 use crate::Ending;
 use crate::saying::put_piece;
@@ -41,7 +42,7 @@ fn say_run<'a, O: Sink>(
     out: &mut O,
 ) -> Ending<'a>
     requires { machine.old.outcome ≡ None }
-    ensures { SaysLine result file.now (line_of (ran machine.old)) (O.seen out.old) (O.seen out.new) }
+    ensures { SaysRun result file.now (ran machine.old) (O.seen out.old) (O.seen out.new) }
 {
     let outcome = machine.run();
     match machine.outcome_text(alloc, &outcome) {
@@ -60,14 +61,14 @@ fn run_call<'a, O: Sink>(
     entry: &'a str,
     out: &mut O,
 ) -> Ending<'a>
-    requires { IsInRange limits }
+    requires limits { IsInRange limits }
+    requires canonical { IsTrue (list_all is_canonical call.args) }
     ensures { RunsOpened result image (called file.now entry.now call limits) (O.seen out.old) (O.seen out.new) }
 {
     let count = call.args.len();
     match Machine::open(alloc, image, call, limits, Vec::new(alloc)) {
         Err(OpenRefusal::NotExported) => Ending::NotExported(entry, count),
-        Err(OpenRefusal::NotBuilt) => Ending::NotBuilt(file),
-        Err(OpenRefusal::ArgsDoNotFit) => unreachable!(),
+        Err(OpenRefusal::ArgsDoNotFit) => Ending::ArgsDoNotFit,
         Err(OpenRefusal::Memory(_)) => Ending::NoMemory,
         Ok(machine) => {
             let mut machine = machine;
@@ -81,7 +82,6 @@ fn image_refused(file: &str, refusal: ImageRefusal) -> Ending<'_>
     ensures { EndsImage refusal file.now result }
 {
     match refusal {
-        ImageRefusal::NotBuilt => Ending::NotBuilt(file),
         ImageRefusal::Memory(_) => Ending::NoMemory,
         refusal => Ending::ImageRefused(file, refusal),
     }
@@ -99,6 +99,7 @@ fn run_bytes<'a, O: Sink>(
 ) -> Ending<'a>
     requires size { length bytes.now ≤ MOST_IMAGE_BYTES }
     requires limits { IsInRange limits }
+    requires canonical { IsTrue (list_all is_canonical call.args) }
     ensures { RunsBytes result bytes.now (called file.now entry.now call limits) (O.seen out.old) (O.seen out.new) }
 {
     match read_image(alloc, bytes) {
@@ -117,7 +118,8 @@ fn run_file<'a, F: Files, O: Sink>(
     files: &mut F,
     out: &mut O,
 ) -> Ending<'a>
-    requires { IsInRange limits }
+    requires limits { IsInRange limits }
+    requires canonical { IsTrue (list_all is_canonical call.args) }
     ensures ends { RunsFile result (called file.now entry.now call limits) (effects (course (F.told files.old) (F.told files.new)) (O.seen out.old) (O.seen out.new)) }
     ensures quiet { IsQuiet (course (F.told files.old) (F.told files.new)) }
 {

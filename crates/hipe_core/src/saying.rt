@@ -217,7 +217,6 @@ fn image_line(alloc: Global, file: &str, refusal: &ImageRefusal) -> Result<Strin
         ImageRefusal::Field { flaw, offset } => field_line(alloc, file, *flaw, *offset),
         ImageRefusal::Module { index, .. } => text_line_of_module(alloc, file, *index),
         ImageRefusal::Check(_) => image_with(alloc, file, "check"),
-        ImageRefusal::NotBuilt => not_built_line(alloc, file),
         ImageRefusal::Memory(_) => String::from_str(alloc, "hipe: want of memory\n"),
     }
 }
@@ -276,6 +275,7 @@ fn status(ending: &Ending<'_>) -> u8
         Ending::ImageRefused(_, _) => 5,
         Ending::Usage => 6,
         Ending::NotExported(_, _) => 6,
+        Ending::ArgsDoNotFit => 6,
         Ending::CannotRead(_) => 7,
         Ending::CannotWrite => 8,
         Ending::NoMemory => 9,
@@ -298,7 +298,11 @@ fn line(alloc: Global, ending: &Ending<'_>) -> Result<String, AllocError>
         Ending::CannotRead(file) => cannot_read_line(alloc, file),
         Ending::TooLong(file) => too_long_line(alloc, file),
         Ending::NotBuilt(file) => not_built_line(alloc, file),
-        Ending::Said(_) | Ending::Usage | Ending::CannotWrite | Ending::NoMemory => unreachable!(),
+        Ending::Said(_)
+        | Ending::Usage
+        | Ending::ArgsDoNotFit
+        | Ending::CannotWrite
+        | Ending::NoMemory => unreachable!(),
     }
 }
 
@@ -328,6 +332,10 @@ pub fn finish<E: Sink>(alloc: Global, err: &mut E, ending: &Ending<'_>) -> u8
         Ending::Said(status) => *status,
         Ending::Usage => {
             put_piece(err, b"hipe: usage\n");
+            6
+        }
+        Ending::ArgsDoNotFit => {
+            put_piece(err, b"hipe: arguments do not fit\n");
             6
         }
         Ending::CannotWrite => {

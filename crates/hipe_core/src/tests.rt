@@ -506,26 +506,60 @@ fn a_text_is_known_by_its_forms(rt: HostRuntime) -> Result<(), Fail> {
     Ok(())
 }
 
-/// Items that do nothing, the last of two moves, and a function that returns its argument, which no
-/// run has yet.
+/// Items that do nothing, the last of two moves, and functions that return an argument or a constant.
+const TRIVIAL: &[u8] =
+    b"{module,e}. {exports,[{f,0},{g,1},{h,7},{k,0},{l,0},{m,0}]}. {attributes,[]}. {labels,13}.\n{function,f,0,2}. {label,1}. {line,[]}. {func_info,{atom,e},{atom,f},0}.\n{label,2}. {'%',{note,#{}}}. {move,{integer,5},{x,0}}. {line,[]}. {move,{integer,7},{x,0}}. return.\n{function,g,1,4}. {label,3}. {func_info,{atom,e},{atom,g},1}. {label,4}. return.\n{function,h,7,6}. {label,5}. {func_info,{atom,e},{atom,h},7}. {label,6}. {move,{x,6},{x,0}}. return.\n{function,k,0,8}. {label,7}. {func_info,{atom,e},{atom,k},0}. {label,8}. {move,{literal,[a,{b}]},{x,0}}. {move,{literal,{a,[1|b]}},{x,0}}. return.\n{function,l,0,10}. {label,9}. {func_info,{atom,e},{atom,l},0}. {label,10}. {move,{atom,'A b'},{x,0}}. return.\n{function,m,0,12}. {label,11}. {func_info,{atom,e},{atom,m},0}. {label,12}. {move,nil,{x,0}}. return.";
+
 #[test]
 fn trivial_functions_are_compiled(rt: HostRuntime) -> Result<(), Fail> {
     let alloc = rt.alloc();
-    let text =
-        b"{module,e}. {exports,[{f,0},{g,1}]}. {attributes,[]}. {labels,5}.\n{function,f,0,2}. {label,1}. {line,[]}. {func_info,{atom,e},{atom,f},0}.\n{label,2}. {'%',{note,#{}}}. {move,{integer,5},{x,0}}. {line,[]}. {move,{integer,7},{x,0}}. return.\n{function,g,1,4}. {label,3}. {func_info,{atom,e},{atom,g},1}. {label,4}. return.";
-    let image = image_of(alloc, text)?;
-    let run = ["run", "e.S", "e:f", "[]"];
-    assert!(rt; prints(alloc, &run, image.as_slice(), 0, "return 7\n")?);
-    for (args, status, line) in [
-        ("[1]", 11, "hipe: e.S: not built\n"),
-        ("[{a,[]}]", 11, "hipe: e.S: not built\n"),
-        ("[]", 6, "hipe: not exported e:g/0\n"),
+    let image = image_of(alloc, TRIVIAL)?;
+    for (entry, args, line) in [
+        ("e:f", "[]", "return 7\n"),
+        ("e:g", "[-134217728]", "return -134217728\n"),
+        ("e:g", "[\"ab\"]", "return [97,98]\n"),
+        ("e:g", "['hello world']", "return 'hello world'\n"),
+        ("e:g", "[{e,[a|{}],new}]", "return {e,[a|{}],new}\n"),
+        ("e:h", "[0,1,2,3,4,5,[six]]", "return [six]\n"),
+        ("e:k", "[]", "return {a,[1|b]}\n"),
+        ("e:l", "[]", "return 'A b'\n"),
+        ("e:m", "[]", "return []\n"),
     ] {
-        let words = ["run", "e.S", "e:g", args, "--heap=0"];
-        assert!(rt;
-            says(alloc, &words, image.as_slice(), status, line)?,
-            "{args}"
-        );
+        let run = ["run", "e.S", entry, args];
+        assert!(rt; prints(alloc, &run, image.as_slice(), 0, line)?, "{line}");
+    }
+    Ok(())
+}
+
+/// The words of the arguments against the limit of the heap.
+#[test]
+fn arguments_fit_or_not(rt: HostRuntime) -> Result<(), Fail> {
+    let alloc = rt.alloc();
+    let image = image_of(alloc, TRIVIAL)?;
+    let unfit = "hipe: arguments do not fit\n";
+    for (entry, args, heap, status, line) in [
+        ("e:g", "[[1,2]]", "--heap=4", 0, "return [1,2]\n"),
+        ("e:g", "[[1,2]]", "--heap=3", 6, unfit),
+        ("e:g", "[{1,{}}]", "--heap=4", 0, "return {1,{}}\n"),
+        ("e:g", "[{1,{}}]", "--heap=3", 6, unfit),
+        (
+            "e:h",
+            "[[],[],[],[],[],[],[a]]",
+            "--heap=2",
+            0,
+            "return [a]\n",
+        ),
+        ("e:h", "[[a],[],[],[],[],[],[a]]", "--heap=3", 6, unfit),
+        ("e:g", "[]", "--heap=0", 6, "hipe: not exported e:g/0\n"),
+        ("e:g", "[134217728]", "--heap=0", 3, "hipe: args:1: wide\n"),
+    ] {
+        let words = ["run", "e.S", entry, args, heap];
+        let right = if status == 0 {
+            prints(alloc, &words, image.as_slice(), status, line)?
+        } else {
+            says(alloc, &words, image.as_slice(), status, line)?
+        };
+        assert!(rt; right, "{entry} {args} {heap}");
     }
     Ok(())
 }
@@ -652,12 +686,21 @@ fn images_are_refused(rt: HostRuntime) -> Result<(), Fail> {
         (7, 3, "hipe: e.S: image version at 4\n"),
         (11, 0, "hipe: e.S: image count at 8\n"),
         (284, 0, "hipe: e.S: image long at 284\n"),
-        (25, b'E', "hipe: e.S: image module 0\n"),
+        (75, 1, "hipe: e.S: image value at 16\n"),
+        (16, b'x', "hipe: e.S: image module 0\n"),
+        (260, b'f', "hipe: e.S: image value at 76\n"),
+        (87, b'a', "hipe: e.S: image value at 76\n"),
         (267, 1, "hipe: e.S: image short at 284\n"),
+        (275, 1, "hipe: e.S: image short at 284\n"),
+        (279, 1, "hipe: e.S: image value at 276\n"),
     ] {
         let damaged = with_byte(alloc, image.as_slice(), at, byte)?;
         assert!(rt; says(alloc, &words, damaged.as_slice(), 5, line)?, "{line}");
     }
+    let many = with_byte(alloc, image.as_slice(), 281, 0x10)?;
+    let many = with_byte(alloc, many.as_slice(), 283, 1)?;
+    let line = "hipe: e.S: image count at 280\n";
+    assert!(rt; says(alloc, &words, many.as_slice(), 5, line)?);
     Ok(())
 }
 

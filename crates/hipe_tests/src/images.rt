@@ -28,8 +28,8 @@ const EMPTY_MODULE: &str = "{module, e}.\n{exports, []}.\n{attributes, []}.\n{la
 
 /// Bytes, and where each of their fields begins.
 #[derive(Drop)]
-struct Draft {
-    bytes: Vec<u8>,
+pub struct Draft {
+    pub bytes: Vec<u8>,
     fields: Vec<usize>,
 }
 
@@ -46,7 +46,7 @@ impl Draft {
         self.bytes.extend_from_slice(&number.to_be_bytes())
     }
 
-    fn words(&mut self, numbers: &[u32]) -> Result<(), AllocError> {
+    pub fn words(&mut self, numbers: &[u32]) -> Result<(), AllocError> {
         for number in numbers {
             self.word(*number)?;
         }
@@ -69,12 +69,28 @@ fn head(draft: &mut Draft) -> Result<(), AllocError> {
     draft.words(&[0x48495045, 1])
 }
 
-fn atoms(draft: &mut Draft) -> Result<(), AllocError> {
-    draft.word(15)?;
+fn names(draft: &mut Draft) -> Result<(), AllocError> {
     for atom in &ATOMS {
         draft.text(atom)?;
     }
     Ok(())
+}
+
+fn atoms(draft: &mut Draft) -> Result<(), AllocError> {
+    draft.word(15)?;
+    names(draft)
+}
+
+/// The beginning of an image of a module that names no atoms but `e` and `f`: all that stands before its literals.
+pub fn image_begun(alloc: Global, text: &str) -> Result<Draft, AllocError> {
+    let mut draft = Draft::new(alloc);
+    head(&mut draft)?;
+    draft.word(1)?;
+    draft.text(text)?;
+    draft.word(16)?;
+    names(&mut draft)?;
+    draft.text("f")?;
+    Ok(draft)
 }
 
 /// The image of one module without functions.
@@ -218,8 +234,12 @@ fn parts_of_no_image(rt: HostRuntime) -> Result<(), Fail> {
     let draft = full_image(rt.alloc())?;
     let slots = live_slots(rt.alloc(), &draft.bytes)?;
     assert_eq!(rt; slots.as_slice(), [1, 31, 32, 1].as_slice());
-    let unbuilt = image_said(rt.alloc(), &draft.bytes)?;
-    same(&rt, unbuilt.as_str(), "NotBuilt");
+    let refusal = image_said(rt.alloc(), &draft.bytes)?;
+    same(
+        &rt,
+        refusal.as_str(),
+        "Module { index: 0, refusal: Text(Syntax { line: 1 }) }",
+    );
     Ok(())
 }
 
@@ -353,6 +373,137 @@ fn texts_of_no_modules(rt: HostRuntime) -> Result<(), Fail> {
         let draft = image_of_two(rt.alloc(), EMPTY_MODULE, second)?;
         let said = image_said(rt.alloc(), &draft.bytes)?;
         assert!(rt; said.as_str().starts_with(refusal), "{said}");
+    }
+    Ok(())
+}
+
+/// A module whose one function, of eight items, keeps a literal in its y register while it calls itself. Its frame has
+/// three words, and its call is item 5.
+const CALLING_MODULE: &str = "{module, e}.
+{exports, []}.
+{attributes, []}.
+{labels, 3}.
+{function, f, 0, 2}.
+{label,1}.
+{func_info,{atom,e},{atom,f},0}.
+{label,2}.
+{allocate,1,0}.
+{move,{literal,[{e,1}]},{y,0}}.
+{call,0,{f,2}}.
+{deallocate,1}.
+return.
+";
+
+/// The word of the literal: its cons lies behind its tuple.
+const LITERAL: u32 = 0x0800_000D;
+
+/// An image of this module: the tuple and the cons of the literal, roots, two native words, and a descriptor of a
+/// return to an item and one of a return to native code, with a handler there.
+fn linked_image(alloc: Global, roots: &[u32]) -> Result<Draft, AllocError> {
+    let mut draft = image_begun(alloc, CALLING_MODULE)?;
+    draft.words(&[5, 0x80, 0x38B, 0x1F, 0x0800_0002, 0x3B])?;
+    draft.word(u32::try_from(roots.len()).unwrap_or(0))?;
+    draft.words(roots)?;
+    draft.words(&[1, 0, 0, 2])?;
+    draft.words(&[2, 0x0100_0000, 0x0100_0000])?;
+    draft.word(2)?;
+    draft.words(&[0x0200_0018, 0, 5, 3, 0, 0, 2])?;
+    draft.words(&[0x0400_0008, 0, 5, 3, 1, 0x0400_0004, 2])?;
+    Ok(draft)
+}
+
+/// Where the native code of function 0 begins, and the handler of the frame that waits for this address.
+fn looked_up(alloc: Global, bytes: &[u8], ret: u32) -> Result<(u32, u32), ImageRefusal> {
+    if bytes.len() > MOST_IMAGE_BYTES {
+        return Ok((0, 0));
+    }
+    let image = read_image(alloc, bytes)?;
+    let handler = image.find(ret).map(|found| found.handler).unwrap_or(1);
+    Ok((image.native_entry(0).unwrap_or(1), handler))
+}
+
+#[test]
+fn an_image_with_descriptors(rt: HostRuntime) -> Result<(), Fail> {
+    let draft = linked_image(rt.alloc(), &[LITERAL])?;
+    assert_eq!(rt; draft.bytes.len(), 556);
+    let written = again(rt.alloc(), &draft.bytes)?;
+    assert_eq!(rt; written.as_slice(), draft.bytes.as_slice());
+    for (ret, handler) in [
+        (0x0200_0018, 0),
+        (0x0400_0008, 0x0400_0004),
+        (0x0200_001C, 1),
+    ] {
+        let found = looked_up(rt.alloc(), &draft.bytes, ret)?;
+        assert!(rt; found == (0x0400_0000, handler));
+    }
+    Ok(())
+}
+
+/// The number of roots stands at 460.
+#[test]
+fn roots_are_as_many_as_literals(rt: HostRuntime) -> Result<(), Fail> {
+    let none: [u32; 0] = [];
+    let two = [LITERAL, LITERAL];
+    for roots in [none.as_slice(), two.as_slice()] {
+        let draft = linked_image(rt.alloc(), roots)?;
+        let refusal = image_said(rt.alloc(), &draft.bytes)?;
+        same(&rt, refusal.as_str(), "Field { flaw: Value, offset: 460 }");
+    }
+    Ok(())
+}
+
+/// The offset of a word, another word for it, and the offset of the field that is refused. The literal words begin at
+/// 440, the root stands at 464, the native function at 472, the descriptors at 500 and at 528.
+const MISFITS: [(usize, u32, usize); 22] = [
+    (464, 0x3B, 464),
+    (464, 0x0800_0002, 464), // the tuple alone
+    (464, 0x0800_0011, 464), // a cons behind the last word
+    (448, 0x2F, 464), // {e,2}
+    (444, 0x3CB, 464), // {f,1}
+    (456, 0x0800_000D, 464), // a cons that is its own tail
+    (472, 1, 472),
+    (504, 1, 504),
+    (508, 8, 508), // an item too many; the return address is not its next item either
+    (508, 4, 500), // the return address is not the next item of this one
+    (500, 0x0200_0019, 500),
+    (500, 0x0200_001C, 500),
+    (512, 2, 512),
+    (512, 4, 512),
+    (528, 0x0400_0000, 528), // the first native word, behind none
+    (528, 0x0400_0006, 528),
+    (528, 0x0400_000C, 528),
+    (532, 1, 532),
+    (540, 4, 540),
+    (548, 0x0400_0008, 548), // behind the last native word
+    (548, 0x0200_0020, 548), // behind the last item
+    (548, 0x0200_001E, 548),
+];
+
+/// Words that fit as well, by offset: other native words and an item.
+const FITS: [(usize, u32); 4] = [
+    (508, 5),
+    (528, 0x0400_0004),
+    (548, 0x0400_0000),
+    (548, 0x0200_001C),
+];
+
+/// What reading an image says of the one above with another word at an offset.
+fn linked_said(alloc: Global, at: usize, number: u32) -> Result<String, AllocError> {
+    let draft = linked_image(alloc, &[LITERAL])?;
+    let bytes = with_word(alloc, &draft.bytes, at, number)?;
+    image_said(alloc, &bytes)
+}
+
+#[test]
+fn what_modules_ask_in_vain(rt: HostRuntime) -> Result<(), Fail> {
+    for (at, number, offset) in MISFITS.iter() {
+        let refusal = linked_said(rt.alloc(), *at, *number)?;
+        let wanted = format!(in rt.alloc(); "Field {{ flaw: Value, offset: {offset} }}")?;
+        same(&rt, refusal.as_str(), wanted.as_str());
+    }
+    for (at, number) in FITS.iter() {
+        let answer = linked_said(rt.alloc(), *at, *number)?;
+        same(&rt, answer.as_str(), "Ok");
     }
     Ok(())
 }

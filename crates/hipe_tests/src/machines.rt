@@ -1,10 +1,14 @@
 //! Machines of `mode_switch`: runs on images made by hand, and the lines of outcomes.
 
-ghost use Rattle.std.specs.Prelude.{◌≡◌, [], IfOk};
+ghost use Rattle.mode_switch.specs.Call.{IsInRange};
+ghost use Rattle.mode_switch.specs.Text.{IsAtomsOf};
+ghost use Rattle.std.specs.Prelude.{ℕ, ◌≡◌, List, [], IfOk, IsTrue};
 
+use crate::images::{Draft, image_begun};
+use asm_text::read_args;
 use hand_images::image_of;
 use image_format::{MOST_CODE, MOST_IMAGE_BYTES};
-use mode_switch::{Call, End, FaultKind, Limits, Machine, Outcome, RaiseClass, Step};
+use mode_switch::{Call, End, FaultKind, Limits, Machine, OpenRefusal, Outcome, RaiseClass, Step};
 use native_link::{Image, read_image};
 use sqlite_items::Items;
 use std::alloc::{AllocError, Global};
@@ -197,9 +201,48 @@ fn no_code_behind_gates_and_items(rt: HostRuntime) -> Result<(), Fail> {
 }
 
 /// Values and ends with their lines and statuses.
-const LINES: [(Outcome, &str, u8); 8] = [
+const LINES: [(Outcome, &str, u8); 15] = [
     (Outcome::Returned(0x2AF), "return 42\n", 0),
     (Outcome::Returned(0x8000_000F), "return -134217728\n", 0),
+    (Outcome::Returned(0x3B), "return []\n", 0),
+    (Outcome::Returned(0xCB), "return 'EXIT'\n", 0),
+    (
+        Outcome::Returned(0x40B),
+        "end machine_fault term 0000040B\n",
+        2,
+    ),
+    (
+        Outcome::Raised {
+            class: RaiseClass::Error,
+            reason: 0x3B,
+        },
+        "raise error []\n",
+        1,
+    ),
+    (
+        Outcome::Raised {
+            class: RaiseClass::Exit,
+            reason: 0x0B,
+        },
+        "raise exit error\n",
+        1,
+    ),
+    (
+        Outcome::Raised {
+            class: RaiseClass::Throw,
+            reason: 0x1F,
+        },
+        "raise throw 1\n",
+        1,
+    ),
+    (
+        Outcome::Raised {
+            class: RaiseClass::Throw,
+            reason: 0x1000_0001,
+        },
+        "end machine_fault term 10000001\n",
+        2,
+    ),
     (Outcome::Ended(End::Bignum), "end bignum\n", 2),
     (Outcome::Ended(End::HeapFull), "end heap_full\n", 2),
     (Outcome::Ended(End::StackFull), "end stack_full\n", 2),
@@ -222,22 +265,23 @@ const FAULT_LINES: [(FaultKind, u32, &str); 6] = [
     (FaultKind::Frame, 0xFFFF_FFFC, "frame FFFFFFFC\n"),
 ];
 
-/// Outcomes that have no line yet: an empty list, an exception and two ends.
-const NO_LINES: [Outcome; 4] = [
-    Outcome::Returned(59),
-    Outcome::Raised {
-        class: RaiseClass::Error,
-        reason: 59,
-    },
-    Outcome::Ended(End::NotProvided {
-        module: 1,
-        function: 2,
-        arity: 3,
-    }),
-    Outcome::Ended(End::NotBuilt {
-        address: 0x0200_0000,
-    }),
-];
+/// The one end that has no line.
+const NO_LINE: Outcome = Outcome::Ended(End::NotBuilt {
+    address: 0x0200_0000,
+});
+
+/// Whether an outcome is no call to a function that is not provided, whose line looks up names.
+fn names_no_atoms(outcome: &Outcome) -> bool
+    ensures { IsTrue result → (names : List (List ℕ)) → IsAtomsOf names outcome.now }
+{
+    match outcome {
+        Outcome::Returned(_) | Outcome::Raised { .. } => true,
+        Outcome::Ended(End::NotProvided { .. }) => false,
+        Outcome::Ended(End::MachineFault { .. } | End::NotBuilt { .. }) => true,
+        Outcome::Ended(End::Bignum | End::HeapFull | End::StackFull) => true,
+        Outcome::Ended(End::OutOfReductions | End::BadOperand | End::StepsSpent) => true,
+    }
+}
 
 /// Whether the outcome has this line, in two parts, and this status.
 fn says(
@@ -247,10 +291,14 @@ fn says(
     line: (&str, &str),
     status: u8,
 ) -> Result<bool, AllocError> {
-    let (said, answered) = machine.outcome_text(alloc, &outcome)?;
-    let (begin, rest) = line;
-    let behind = said.as_str().as_bytes().strip_prefix(begin.as_bytes());
-    Ok(behind == Some(rest.as_bytes()) && answered == status)
+    if names_no_atoms(&outcome) {
+        let (said, answered) = machine.outcome_text(alloc, &outcome)?;
+        let (begin, rest) = line;
+        let behind = said.as_str().as_bytes().strip_prefix(begin.as_bytes());
+        Ok(behind == Some(rest.as_bytes()) && answered == status)
+    } else {
+        Ok(false)
+    }
 }
 
 /// Whether all outcomes have their lines.
@@ -263,9 +311,7 @@ fn says_all(alloc: Global, machine: &mut Machine) -> Result<bool, AllocError> {
         let outcome = fault(*kind, *address);
         all = says(alloc, machine, outcome, ("end machine_fault ", rest), 2)? && all;
     }
-    for outcome in NO_LINES.iter() {
-        all = says(alloc, machine, *outcome, ("", ""), 11)? && all;
-    }
+    all = says(alloc, machine, NO_LINE, ("", ""), 11)? && all;
     Ok(all)
 }
 
@@ -277,6 +323,107 @@ fn lines_of_outcomes(rt: HostRuntime) -> Result<(), Fail> {
             assert!(rt; said);
         }
         None => assert!(rt; false),
+    }
+    Ok(())
+}
+
+/// A module that exports a function of two arguments.
+const TWO_ARGUMENTS: &str = "{module, e}.
+{exports, [{f,2}]}.
+{attributes, []}.
+{labels, 3}.
+{function, f, 2, 2}.
+{label,1}.
+{func_info,{atom,e},{atom,f},2}.
+{label,2}.
+{move,{x,1},{x,0}}.
+return.
+";
+
+/// The image of this module with its function in native form: it returns its second argument.
+fn second_argument(alloc: Global) -> Result<Draft, AllocError> {
+    let mut draft = image_begun(alloc, TWO_ARGUMENTS)?;
+    draft.words(&[0, 0])?; // no literal word, no root
+    draft.words(&[1, 0, 0, 2])?;
+    draft.words(&[2, 0x81C3_E008, 0x9010_0009])?; // jmpl %o7+8,%g0; or %g0,%o1,%o0
+    draft.words(&[0])?;
+    Ok(draft)
+}
+
+fn second_image(alloc: Global) -> Result<Option<Image>, AllocError> {
+    let draft = second_argument(alloc)?;
+    if draft.bytes.len() > MOST_IMAGE_BYTES {
+        return Ok(None);
+    }
+    Ok(read_image(alloc, &draft.bytes).ok())
+}
+
+/// The line of a run, or why the call did not begin.
+fn line_of(alloc: Global, opened: Result<Machine, OpenRefusal>) -> Result<String, AllocError> {
+    match opened {
+        Ok(machine) => {
+            let mut machine = machine;
+            let outcome = machine.run();
+            let (line, _) = machine.outcome_text(alloc, &outcome)?;
+            Ok(line)
+        }
+        Err(refusal) => format!(in alloc; "{refusal:?}"),
+    }
+}
+
+/// What is said of the call of the function on the arguments of a text.
+fn said_of(alloc: Global, image: Image, text: &str, limits: Limits) -> Result<String, AllocError>
+    requires { IsInRange limits }
+{
+    let module = Name::from_short(alloc, "e")?;
+    let function = Name::from_short(alloc, "f")?;
+    match read_args(alloc, text.as_bytes()) {
+        Ok(args) => {
+            let call = Call {
+                module,
+                function,
+                args,
+            };
+            line_of(
+                alloc,
+                Machine::open(alloc, image, call, limits, Vec::new(alloc)),
+            )
+        }
+        Err(_) => String::from_str(alloc, "no arguments"),
+    }
+}
+
+/// What is said of this call with so many heap words, 16 at most.
+fn answer(alloc: Global, text: &str, heap: u32) -> Result<String, AllocError> {
+    let limits = Limits {
+        reductions: 10,
+        heap: heap.min(16),
+        stack: 16,
+    };
+    match second_image(alloc)? {
+        Some(image) => said_of(alloc, image, text, limits),
+        None => String::from_str(alloc, "no image"),
+    }
+}
+
+/// Arguments, the heap words that there are, and what is said. A cons takes two words, a tuple one more than it has
+/// elements.
+const CALLS: [(&str, u32, &str); 8] = [
+    ("[1,-2]", 1, "return -2\n"),
+    ("[1,[a,{b,2}]]", 7, "return [a,{b,2}]\n"),
+    ("[1,[a,{b,2}]]", 6, "ArgsDoNotFit"),
+    ("[{e},[3|f]]", 4, "return [3|f]\n"),
+    ("[{e},[3|f]]", 3, "ArgsDoNotFit"),
+    ("[[],{}]", 1, "return {}\n"),
+    ("[1]", 16, "NotExported"),
+    ("[1,2,3]", 16, "NotExported"),
+];
+
+#[test]
+fn calls_with_arguments(rt: HostRuntime) -> Result<(), Fail> {
+    for (text, heap, wanted) in CALLS.iter() {
+        let said = answer(rt.alloc(), text, *heap)?;
+        assert_eq!(rt; said.as_str(), *wanted, "{text}");
     }
     Ok(())
 }

@@ -60,7 +60,7 @@ all_known names (Literal v ∷ ms) zero m e =
     subst (λ (x : Mention). IsKnown (with_mentions (with_atoms names v) ms) x) same (all_named names (Literal v ∷ ms)).0
 all_known names (n ∷ ms) (suc k) m e = all_known (with_mention names n) ms k m e
 
-as_many : (names : List (List ℕ)) (vs : List Tree) (at : ℕ) → length (words_in_turn names at vs) ≡ length vs
+pub as_many : (names : List (List ℕ)) (vs : List Tree) (at : ℕ) → length (words_in_turn names at vs) ≡ length vs
 as_many names [] at = refl
 as_many names (v ∷ vs) at = ap suc (as_many names vs (at + 4 * words_of v))
 

@@ -63,7 +63,7 @@ can_stand ms names all is table are canonical few =
     let count : row_words 0 (literals_of all) ≡ sum_by literal_words_in ms = ap (λ a. row_words 0 (literals_of a)) is ∙ words-mentions ms in
     all_stand names are (literals_of all) named smalls (omega (arith, count, few))
 
-terms_of : (names : List (List ℕ)) (vs : List u.Tree) → AllByRecursion (CanStand names) vs → AllByRecursion IsTerm vs
+pub terms_of : (names : List (List ℕ)) (vs : List u.Tree) → AllByRecursion (CanStand names) vs → AllByRecursion IsTerm vs
 terms_of names [] all = tt
 terms_of names (v ∷ vs) all = (all.0.term, terms_of names vs all.1)
 

@@ -94,6 +94,13 @@ tuple_good all fine = subst HasSmalls (sym (tree_of-Tuple (map (λ e. e.0) all))
 canonical_good : (x : Term) → IsGood x
 canonical_good = term_ind IsGood int_good atom_good proper_good improper_good tuple_good
 
+-- canonical terms are so
+pub terms_good : (xs : List Term) → list_all is_canonical xs ≡ true → AllByRecursion HasSmalls (map tree_of xs)
+terms_good [] fine = tt
+terms_good (x ∷ xs) fine =
+    let both = both_hold (is_canonical x) (list_all is_canonical xs) fine in
+    (canonical_good x both.0, terms_good xs both.1)
+
 -- ---- the literals of modules
 
 abbrev AreGood : List Mention → Type 0

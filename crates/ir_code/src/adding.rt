@@ -40,9 +40,9 @@ pub fn add_atoms(alloc: Global, atoms: &mut Atoms, term: &Term) -> Result<(), Al
     }
 }
 
-/// The atoms of terms, one after the other.
+/// Adds the atoms of terms, one term after the other, as `add_atoms` does.
 #[cycle(add_atoms)]
-fn add_row(alloc: Global, atoms: &mut Atoms, items: &[Term]) -> Result<(), AllocError>
+pub fn add_row(alloc: Global, atoms: &mut Atoms, items: &[Term]) -> Result<(), AllocError>
     requires { length (with_atoms_of atoms.old (map tree_of items.now)) < MOST_ATOM_NUMBERS }
     ensures { OnOk result (atoms.new ≡ with_atoms_of atoms.old (map tree_of items.now)) }
 {

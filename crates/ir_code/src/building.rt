@@ -3,10 +3,14 @@ ghost use Rattle.beam_code.specs.CanonicalModule.{are_canonical_functions};
 ghost use Rattle.image_format.specs.declared.limits.TheConstants.{MOST_LITERALS};
 ghost use Rattle.ir_code.specs.Constants.{ConstantsHold, constants_of, with_literals};
 ghost use Rattle.ir_code.specs.Laying.{CanStand, literals_in};
+ghost use Rattle.ir_code.specs.Mentions.{literals_of, mentions_of};
 ghost use Rattle.ir_code.specs.Room.{HaveRoom};
+ghost use Rattle.laid_terms.specs.Named.{IsNamed};
 ghost use Rattle.std.specs.List.{AllByRecursion, list_all};
-ghost use Rattle.std.specs.Prelude.{◌≡◌, ◌≤◌, true, IfOk};
+ghost use Rattle.std.specs.Prelude.{◌≡◌, ◌≤◌, map, true, IfOk};
+ghost use Rattle.term_tree.specs.IsTerm.{IsTerm};
 ghost use Rattle.term_tree.specs.Name.{is_name};
+ghost use Rattle.term_tree.specs.Term.{is_canonical, tree_of};
 ghost use Rattle.word_laying.specs.Count.{row_words};
 
 use crate::adding::table;
@@ -16,7 +20,7 @@ use crate::parts::Constants;
 use beam_code::Module;
 use std::alloc::{AllocError, Global};
 use tagged_words::{Atoms, LITERAL_START, WordBlock};
-use term_tree::Name;
+use term_tree::{Name, Term};
 
 /// The most names that modules may have, each as often as it stands there: as many as an image may
 /// have atoms, less the fourteen of the machine itself.
@@ -35,6 +39,17 @@ fn are_names(names: &[Name])
     for name in names {
         is_name(name);
     }
+}
+
+/// That canonical terms can be laid with a table of their atoms: its names are names, which their
+/// type keeps. The words of the terms may be as many as an image may have literal words.
+pub fn terms_can_stand(terms: &[Term], atoms: &Atoms)
+    requires canonical { list_all is_canonical terms.now ≡ true }
+    requires named { AllByRecursion (IsNamed atoms.now) (map tree_of terms.now) }
+    requires few { row_words 0 (map tree_of terms.now) ≤ MOST_LITERALS }
+    ensures { AllByRecursion (CanStand atoms.now) (map tree_of terms.now) }
+{
+    are_names(atoms.names());
 }
 
 /// That the terms of modules are canonical, which their type keeps.
@@ -71,6 +86,7 @@ pub fn constants(alloc: Global, modules: &[Module]) -> Result<Constants, AllocEr
     requires { HaveRoom modules.now }
     ensures constants { IfOk result (λ c. c ≡ constants_of modules.now) }
     ensures hold { IfOk result (λ c. ConstantsHold c modules.now) }
+    ensures terms { IfOk result (λ c. AllByRecursion IsTerm (literals_of (mentions_of modules.now))) }
 {
     are_canonical(modules);
     let all = mentions(alloc, modules)?;

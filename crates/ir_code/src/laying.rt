@@ -41,7 +41,7 @@ pub(crate) fn count_words(mentions: &[Mention]) -> u32
 }
 
 /// Lays a term where there is room for it.
-fn lay_term(block: &mut WordBlock, at: u32, term: &Term, atoms: &Atoms) -> Laid
+pub fn lay_term(block: &mut WordBlock, at: u32, term: &Term, atoms: &Atoms) -> Laid
     requires place { IsPlace block.old at }
     requires room { end_at at (tree_of term.now) ≤ region_end block.old }
     requires stands { CanStand atoms.now (tree_of term.now) }

@@ -2,5 +2,9 @@ pub mod Spots
 pub mod Loadable
 pub mod Native
 pub mod Runs
+pub mod Laid
 pub mod Starts
 pub mod Places
+pub mod Tops
+pub mod Lines
+pub mod Atoms

@@ -1,29 +1,39 @@
 -- Where a call begins.
-use Rattle.std.proofs.Common.{◌≡◌, ℕ, zero, suc, ◌+◌, ◌*◌, ◌^◌, ◌<◌, ◌≤◌, List, [], ◌∷◌, length, take, Option, Some, None, ap, sym, refl, ◌∙◌, arith, subst}
-use Rattle.std.specs.Prelude.{Ok, Err, slice_get}
+use Rattle.std.proofs.Common.{◌≡◌, ℕ, zero, suc, ◌+◌, ◌-◌, ◌*◌, ◌^◌, ◌<◌, ◌≤◌, List, [], ◌∷◌, length, map, take, Option, Some, None, ap, sym, refl, ◌∙◌, arith, subst}
+use Rattle.std.specs.Prelude.{Ok, Err, replicate, slice_get}
+use Rattle.std.specs.List.{AllByRecursion}
+use Rattle.std.specs.declared.alloc.AllocError.{AllocError}
 use Rattle.std.specs.Option.{option_map}
+use Rattle.std.proofs.lemmas.List.{length-append, length-map, length-replicate}
 use Rattle.beam_code.specs.Function.{Placed, all_functions, exported_number, function_at, items_in, items_of}
+use Rattle.beam_code.specs.Meaning.{words_in}
 use Rattle.beam_code.specs.declared.call.Limits.{Limits}
 use Rattle.beam_code.specs.declared.module.Function.{Function}
 use Rattle.beam_code.specs.declared.module.Module.{Module}
-use Rattle.image_format.specs.Fitting.{IsFitting, first_turn}
+use Rattle.image_format.specs.Fitting.{IsFitting, IsWord, first_turn}
 use Rattle.image_format.specs.declared.parts.Native.{Native}
 use Rattle.image_format.specs.declared.parts.Parts.{Parts}
 use Rattle.module_check.specs.Checks.{first_of}
-use Rattle.mode_switch.specs.Call.{call_of}
+use Rattle.mode_switch.specs.Call.{IsInRange}
 use Rattle.image_format.specs.declared.limits.TheConstants.{ITEM_START}
-use Rattle.mode_switch.specs.declared.addresses.TheConstants.{MOST_REDUCTIONS}
+use Rattle.tagged_words.specs.declared.addresses.TheConstants.{HEAP_START}
 use Rattle.mode_switch.specs.declared.machine.OpenRefusal.{OpenRefusal}
 use Rattle.mode_switch.specs.declared.machine.OpenRefusal.TheVariants as refusal
 use Rattle.mode_switch.specs.declared.opening.Start.{Start}
 use Rattle.mode_switch.specs.Destination.{entry_address, first_item}
 use Rattle.mode_switch.specs.Junk.{IsPlaceIn}
 use Rattle.mode_switch.specs.Lookup.{IsLoadable}
-use Rattle.mode_switch.specs.Machine.{IsOpened, IsRunnable, IsWithArgs, Progress, opened}
-use Rattle.mode_switch.specs.Opening.{Starts, opening}
+use Rattle.mode_switch.specs.Machine.{DoNotFit, IsOpened, IsRunnable, Progress, entries_of}
+use Rattle.mode_switch.specs.Opening.{IsStart, Starts}
+use Rattle.mode_switch.proofs.Laid.{row_is}
+use Rattle.mode_switch.specs.Run.{first_memory}
 use Rattle.native_link.proofs.Lookups.{first_within}
 use Rattle.native_link.specs.Lookup.{native_entry_of, native_of, entry_address as native_address}
 use Rattle.term_tree.specs.declared.term.Term.{Term}
+use Rattle.term_tree.specs.Term.{tree_of}
+use Rattle.term_tree.specs.Tree.{Tree}
+use Rattle.tagged_words.specs.Laid.{laid_in_turn, with_atoms_of}
+use Rattle.word_laying.proofs.Cells.{length-row}
 
 -- the items of a function are among all items
 items_before : (ps : List Placed) (k : ℕ) (p : Placed) → slice_get ps k ≡ Some p → items_in (take k ps) + length p.function.items ≤ items_in ps
@@ -62,39 +72,41 @@ native_fits parts fid at fitting e = native_by parts fid at (native_of parts.nat
 
 -- ---- what a call begins with
 
--- the function, that there are no arguments, and the start
-record Begins (ms : List Module) (parts : Parts) (limits : Limits) (exported : Option ℕ) (count : ℕ) (s : Start) : Type 0 where
+-- the function, and the start for terms that fit the heap
+record Begins (ms : List Module) (parts : Parts) (limits : Limits) (exported : Option ℕ) (args : List Tree) (s : Start) : Type 0 where
   function : ℕ
   is_exported : exported ≡ Some function
-  none : count ≡ 0
-  is : s ≡ opening ms parts limits (entry_address ms parts.natives function)
+  start : IsStart ms parts limits args (entry_address ms parts.natives function) s
 
-begins : (ms : List Module) (parts : Parts) (limits : Limits) (exported : Option ℕ) (count : ℕ) (s : Start) → Starts ms parts limits exported count (Ok s) → Begins ms parts limits exported count s
-begins ms parts limits None count s h = absurd h
-begins ms parts limits (Some function) count s h = record { function = function; is_exported = refl; none = h.0; is = h.1 }
+begins : (ms : List Module) (parts : Parts) (limits : Limits) (exported : Option ℕ) (args : List Tree) (s : Start) → Starts ms parts limits exported args (Ok s) → Begins ms parts limits exported args s
+begins ms parts limits None args s h = absurd h
+begins ms parts limits (Some function) args s h = record { function = function; is_exported = refl; start = h }
 
-nil_of : {A : Type 0} (xs : List A) → length xs ≡ 0 → xs ≡ []
-nil_of [] e = refl
-nil_of (x ∷ xs) e = absurd (omega (arith, e))
+heap_words : (limits : Limits) (names : List (List ℕ)) (args : List Tree) → words_in args ≤ limits.heap → length (first_memory limits (laid_in_turn names HEAP_START args) []).heap.words ≡ limits.heap
+heap_words limits names args fits =
+    let words : List ℕ = laid_in_turn names HEAP_START args in
+    let long = length-row names args HEAP_START in
+    let count = row_is args in
+    omega (arith, length-append words (replicate (limits.heap - length words) 0), length-replicate {A = ℕ} (limits.heap - length words) 0, long, count, fits)
 
-pub start_no_args : (ms : List Module) (parts : Parts) (limits : Limits) (exported : Option ℕ) (args : List Term) (s : Start) → Starts ms parts limits exported (length args) (Ok s) → args ≡ []
-start_no_args ms parts limits exported args s h = nil_of args (begins ms parts limits exported (length args) s h).none
-
--- the machine keeps it true that its run has an end
-pub runnable : (ms : List Module) (parts : Parts) (limits : Limits) (junk : List ℕ) (exported : Option ℕ) (count : ℕ) (s : Start) → IsFitting parts → IsLoadable ms → limits.reductions ≤ MOST_REDUCTIONS → junk ≡ [] →
-    Starts ms parts limits exported count (Ok s) → IsRunnable ms parts limits junk s.items s.hardware.place s.atoms
-runnable ms parts limits junk exported count s fitting loadable reductions none h =
-    let b : Begins ms parts limits exported count s = begins ms parts limits exported count s h in
-    let P : Start → Type 0 = λ x. IsRunnable ms parts limits junk x.items x.hardware.place x.atoms in
+-- the machine keeps it true that its run has an end, and that walks have entries
+pub runnable : (ms : List Module) (parts : Parts) (limits : Limits) (junk : List ℕ) (exported : Option ℕ) (args : List Tree) (s : Start) → IsFitting parts → IsLoadable ms → IsInRange limits → junk ≡ [] →
+    Starts ms parts limits exported args (Ok s) → IsRunnable ms parts limits junk s.items s.hardware.place s.atoms s.hardware.memory.heap s.scratch None
+runnable ms parts limits junk exported args s fitting loadable range none h =
+    let b : Begins ms parts limits exported args s = begins ms parts limits exported args s h in
+    let P : Start → Type 0 = λ x. IsRunnable ms parts limits junk x.items x.hardware.place x.atoms x.hardware.memory.heap x.scratch None in
     let Q : List ℕ → Type 0 = λ j. IsPlaceIn j 0 in
-    subst P (sym b.is) (record {
+    subst P (sym b.start.is) (record {
       counted = refl;
       few_items = loadable.items;
       code = fitting.code;
-      reductions = reductions;
+      reductions = range.reductions;
       no_junk = none;
       place = subst Q (sym none) refl;
-      names = refl;
+      heap_words = ap (λ n. (HEAP_START, n)) (heap_words limits (with_atoms_of parts.atoms args) args b.start.heap);
+      few_words = range.heap;
+      entries = length-replicate (entries_of parts limits) 0;
+      atoms = tt;
     })
 
 abbrev pub progress_of : List Module → Parts → Limits → List ℕ → Start → Progress
@@ -102,38 +114,77 @@ progress_of ms parts limits junk s =
     record { loaded = record { modules = ms; parts = parts; limits = limits; names = s.atoms; junk = junk }; state = s.hardware; outcome = None; steps = 0 }
 
 -- a machine that begins so is opened for the call
-pub opened_by : (ms : List Module) (parts : Parts) (limits : Limits) (junk : List ℕ) (owner name : List ℕ) (args : List Term) (s : Start) →
-    Starts ms parts limits (exported_number ms owner name (length args)) (length args) (Ok s) → IsOpened ms parts owner name args limits junk (progress_of ms parts limits junk s)
-opened_by ms parts limits junk owner name args s h =
-    let b : Begins ms parts limits (exported_number ms owner name (length args)) (length args) s = begins ms parts limits (exported_number ms owner name (length args)) (length args) s h in
+pub opened_by : (ms : List Module) (parts : Parts) (limits : Limits) (junk : List ℕ) (owner name : List ℕ) (args : List Term) (s : Start) → IsInRange limits → junk ≡ [] →
+    Starts ms parts limits (exported_number ms owner name (length args)) (map tree_of args) (Ok s) → IsOpened ms parts owner name args limits junk (progress_of ms parts limits junk s)
+opened_by ms parts limits junk owner name args s range none h =
+    let b : Begins ms parts limits (exported_number ms owner name (length args)) (map tree_of args) s = begins ms parts limits (exported_number ms owner name (length args)) (map tree_of args) s h in
     record {
       function = b.function;
       exported = b.is_exported;
-      is = ap (progress_of ms parts limits junk) b.is ∙ ap (λ a. opened ms parts (call_of b.function a limits junk)) (sym (nil_of args b.none));
+      is = ap (progress_of ms parts limits junk) b.start.is;
+      call = record {
+        owner = owner;
+        name = name;
+        exported = ap (exported_number ms owner name) (length-map args tree_of) ∙ b.is_exported;
+        terms = b.start.terms;
+        heap = b.start.heap;
+        limits = range;
+        words = subst (AllByRecursion IsWord) (sym none) tt;
+        no_junk = none;
+      };
     }
 
+-- what does not begin a call of an exported function
+pub passes : (ms : List Module) (parts : Parts) (limits : Limits) (exported : Option ℕ) (args : List Tree) (function : ℕ) → Some function ≡ exported → limits.heap < words_in args → Starts ms parts limits exported args (Err refusal.ArgsDoNotFit)
+passes ms parts limits None args function is more = absurd cc
+passes ms parts limits (Some g) args function is more = more
+
+pub lacks : (ms : List Module) (parts : Parts) (limits : Limits) (exported : Option ℕ) (args : List Tree) (function : ℕ) (e : AllocError) → Some function ≡ exported → words_in args ≤ limits.heap → Starts ms parts limits exported args (Err (refusal.Memory e))
+lacks ms parts limits None args function e is fits = absurd cc
+lacks ms parts limits (Some g) args function e is fits = fits
+
 -- a call that began is of an exported function
-pub started_exported : (ms : List Module) (parts : Parts) (limits : Limits) (exported : Option ℕ) (count : ℕ) (s : Start) → Starts ms parts limits exported count (Ok s) → exported ≡ None → ⊥
-started_exported ms parts limits None count s h e = h
-started_exported ms parts limits (Some function) count s h e = cc
+pub started_exported : (ms : List Module) (parts : Parts) (limits : Limits) (exported : Option ℕ) (args : List Tree) (s : Start) → Starts ms parts limits exported args (Ok s) → exported ≡ None → ⊥
+started_exported ms parts limits None args s h e = h
+started_exported ms parts limits (Some function) args s h e = cc
 
 -- ---- why a call did not begin
 
-pub refused_exported : (ms : List Module) (parts : Parts) (limits : Limits) (exported : Option ℕ) (count : ℕ) → Starts ms parts limits exported count (Err refusal.NotExported) → exported ≡ None
-refused_exported ms parts limits None count h = refl
-refused_exported ms parts limits (Some function) count h = absurd h
+pub refused_exported : (ms : List Module) (parts : Parts) (limits : Limits) (exported : Option ℕ) (args : List Tree) → Starts ms parts limits exported args (Err refusal.NotExported) → exported ≡ None
+refused_exported ms parts limits None args h = refl
+refused_exported ms parts limits (Some function) args h = absurd h
 
-pub refused_by : (ms : List Module) (parts : Parts) (limits : Limits) (exported : Option ℕ) (count : ℕ) (e : OpenRefusal) → Starts ms parts limits exported count (Err e) → exported ≡ None → e ≡ refusal.NotExported
-refused_by ms parts limits None count refusal.NotExported h none = refl
-refused_by ms parts limits None count refusal.ArgsDoNotFit h none = absurd h
-refused_by ms parts limits None count refusal.NotBuilt h none = absurd h
-refused_by ms parts limits None count (refusal.Memory m) h none = absurd h
-refused_by ms parts limits (Some function) count e h none = absurd cc
+pub refused_by : (ms : List Module) (parts : Parts) (limits : Limits) (exported : Option ℕ) (args : List Tree) (e : OpenRefusal) → Starts ms parts limits exported args (Err e) → exported ≡ None → e ≡ refusal.NotExported
+refused_by ms parts limits None args refusal.NotExported h none = refl
+refused_by ms parts limits None args refusal.ArgsDoNotFit h none = absurd h
+refused_by ms parts limits None args (refusal.Memory m) h none = absurd h
+refused_by ms parts limits (Some function) args e h none = absurd cc
 
-pub refused_args : (ms : List Module) (parts : Parts) (limits : Limits) (owner name : List ℕ) (args : List Term) (number : Option ℕ) → exported_number ms owner name (length args) ≡ number → Starts ms parts limits number (length args) (Err refusal.NotBuilt) → IsWithArgs ms owner name args
-refused_args ms parts limits owner name args None e h = absurd h
-refused_args ms parts limits owner name args (Some function) e h = record { function = function; exported = e; some = h }
+fits_not : (ms : List Module) (parts : Parts) (limits : Limits) (owner name : List ℕ) (args : List Term) (number : Option ℕ) → exported_number ms owner name (length args) ≡ number
+    → Starts ms parts limits number (map tree_of args) (Err refusal.ArgsDoNotFit) → DoNotFit ms owner name args limits
+fits_not ms parts limits owner name args None e h = absurd h
+fits_not ms parts limits owner name args (Some function) e h = record { function = function; exported = e; more = h }
 
-pub always_fit : (ms : List Module) (parts : Parts) (limits : Limits) (exported : Option ℕ) (count : ℕ) → Starts ms parts limits exported count (Err refusal.ArgsDoNotFit) → ⊥
-always_fit ms parts limits None count h = h
-always_fit ms parts limits (Some function) count h = h
+pub refused_args : (ms : List Module) (parts : Parts) (limits : Limits) (owner name : List ℕ) (args : List Term)
+    → Starts ms parts limits (exported_number ms owner name (length args)) (map tree_of args) (Err refusal.ArgsDoNotFit) → DoNotFit ms owner name args limits
+refused_args ms parts limits owner name args h = fits_not ms parts limits owner name args (exported_number ms owner name (length args)) refl h
+
+refused_some : (ms : List Module) (parts : Parts) (limits : Limits) (args : List Tree) (function : ℕ) (number : Option ℕ) (e : OpenRefusal) → number ≡ Some function → limits.heap < words_in args
+    → Starts ms parts limits number args (Err e) → e ≡ refusal.ArgsDoNotFit
+refused_some ms parts limits args function None e is more h = absurd cc
+refused_some ms parts limits args function (Some g) refusal.NotExported is more h = absurd h
+refused_some ms parts limits args function (Some g) refusal.ArgsDoNotFit is more h = refl
+refused_some ms parts limits args function (Some g) (refusal.Memory m) is more h = absurd (omega (arith, more, h))
+
+-- arguments that do not fit are refused as such
+pub refused_fit : (ms : List Module) (parts : Parts) (limits : Limits) (owner name : List ℕ) (args : List Term) (e : OpenRefusal) → Starts ms parts limits (exported_number ms owner name (length args)) (map tree_of args) (Err e)
+    → DoNotFit ms owner name args limits → e ≡ refusal.ArgsDoNotFit
+refused_fit ms parts limits owner name args e h out =
+    refused_some ms parts limits (map tree_of args) out.function (exported_number ms owner name (length args)) e out.exported out.more h
+
+-- and a call that began has arguments that fit
+pub started_fit : (ms : List Module) (parts : Parts) (limits : Limits) (owner name : List ℕ) (args : List Term) (s : Start) → Starts ms parts limits (exported_number ms owner name (length args)) (map tree_of args) (Ok s)
+    → DoNotFit ms owner name args limits → ⊥
+started_fit ms parts limits owner name args s h out =
+    let b : Begins ms parts limits (exported_number ms owner name (length args)) (map tree_of args) s = begins ms parts limits (exported_number ms owner name (length args)) (map tree_of args) s h in
+    omega (arith, b.start.heap, out.more)

@@ -1,14 +1,15 @@
 -- Where PC may lead: gates, emulated items, native code; and where a call leads (docs/MACHINE.md, Addresses of code).
-use Rattle.std.specs.Prelude.{ℕ, ◌+◌, ◌-◌, ◌*◌, ◌/◌, ◌%◌, Bool, ◌&&◌, ◌||◌, not, Option, Some, None, List, nat_eq, nat_lt, nat_le, if◌then◌else◌, take}
+use Rattle.std.specs.Prelude.{ℕ, ◌+◌, ◌-◌, ◌/◌, ◌%◌, Bool, ◌&&◌, ◌||◌, not, Option, Some, None, List, nat_eq, nat_lt, nat_le, if◌then◌else◌}
 use Rattle.beam_code.specs.declared.gates.TheConstants.{BUILT_INS, FIRST_RAISER, GATE_BADARG, GATE_BUILT_INS, GATE_GUARDS, LAST_RAISER}
 use Rattle.beam_code.specs.declared.module.Module.{Module}
-use Rattle.beam_code.specs.Function.{Placed, function_at, all_functions, items_in}
+use Rattle.beam_code.specs.Function.{Placed, function_at}
 use Rattle.mode_switch.specs.declared.addresses.TheConstants.{GATE_START, GATES}
 use Rattle.mode_switch.specs.declared.destination.Destination.{Destination}
 use Rattle.mode_switch.specs.declared.destination.Destination.TheVariants.{Gate, Item, Word, Nowhere}
 use Rattle.image_format.specs.declared.limits.TheConstants.{CODE_START, ITEM_START}
 use Rattle.image_format.specs.declared.parts.Native.{Native}
 use Rattle.native_link.specs.Lookup.{native_entry_of}
+pub use Rattle.native_link.specs.Places.{first_item, item_address}
 
 -- a guard is a gate for the built-ins that only compute
 abbrev pub is_raiser : ℕ → Bool
@@ -33,13 +34,6 @@ destination_of items words at =
     else if within ITEM_START items at then Item ((at - ITEM_START) / 4)
     else if within CODE_START words at then Word ((at - CODE_START) / 4)
     else Nowhere
-
--- the number of an item is counted over all functions
-abbrev pub first_item : List Module → ℕ → ℕ
-first_item ms fid = items_in (take fid (all_functions ms))
-
-abbrev pub item_address : ℕ → ℕ
-item_address i = ITEM_START + 4 * i
 
 -- the address of a function's entry item
 abbrev pub item_entry : List Module → ℕ → Option Placed → ℕ

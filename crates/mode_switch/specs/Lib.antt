@@ -7,7 +7,9 @@ pub mod Junk
 pub mod Run
 pub mod Lookup
 pub mod Call
+pub mod Laying
 pub mod Opening
+pub mod Store
 pub mod Machine
 pub mod Text
 pub mod Numbers

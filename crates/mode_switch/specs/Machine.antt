@@ -1,16 +1,19 @@
 -- How far a call on the machine has come, and what its steps and its run make of that (docs/MACHINE.md, Runs).
-use Rattle.std.specs.Prelude.{ℕ, ◌≡◌, zero, suc, ◌+◌, ◌-◌, ◌^◌, ◌<◌, ◌≤◌, Option, Some, None, Result, Ok, Err, List, [], length, min}
+use Rattle.std.specs.Prelude.{ℕ, ◌≡◌, zero, suc, ◌+◌, ◌-◌, ◌^◌, ◌<◌, ◌≤◌, Option, Some, None, Result, Ok, Err, List, [], length, map, min}
+use Rattle.std.specs.Option.{IfSome}
 use Rattle.beam_code.specs.Function.{exported_number}
-use Rattle.mode_switch.specs.Call.{Call, call_of, loaded, start}
+use Rattle.beam_code.specs.Meaning.{words_in}
+use Rattle.mode_switch.specs.Call.{Call, IsCallOf, call_of, loaded, start}
 use Rattle.mode_switch.specs.Junk.{IsPlaceIn}
 use Rattle.term_tree.specs.declared.term.Term.{Term}
+use Rattle.term_tree.specs.Term.{tree_of}
 use Rattle.small_step.specs.Stage.{Stage, Still, Done}
 use Rattle.beam_code.specs.Function.{items_of}
 use Rattle.beam_code.specs.declared.call.Limits.{Limits}
 use Rattle.beam_code.specs.declared.module.Module.{Module}
 use Rattle.image_format.specs.declared.limits.TheConstants.{MOST_CODE}
 use Rattle.image_format.specs.declared.parts.Parts.{Parts}
-use Rattle.mode_switch.specs.declared.addresses.TheConstants.{MOST_REDUCTIONS, MOST_ITEMS}
+use Rattle.mode_switch.specs.declared.addresses.TheConstants.{MOST_REDUCTIONS, MOST_ITEMS, MOST_WORDS}
 use Rattle.mode_switch.specs.declared.outcome.Outcome.{Outcome}
 use Rattle.mode_switch.specs.declared.outcome.Outcome.TheVariants.{Ended}
 use Rattle.mode_switch.specs.declared.outcome.End.TheVariants.{StepsSpent}
@@ -21,6 +24,10 @@ use Rattle.mode_switch.specs.Step.{fault_of}
 use Rattle.sparc_code.specs.declared.machine.Regs.{Regs}
 use Rattle.sparc_code.specs.declared.machine.MachineFault.{MachineFault}
 use Rattle.mode_switch.specs.State.{Loaded, MixedState, Finish}
+use Rattle.mode_switch.specs.Store.{extent}
+use Rattle.mode_switch.specs.Text.{IsAtomsOf}
+use Rattle.tagged_words.specs.Region.{Region}
+use Rattle.tagged_words.specs.declared.addresses.TheConstants.{HEAP_START}
 
 -- what stays as it is, the state, the outcome once the run is over, and how many steps were done since the start
 pub record Progress : Type 0 where
@@ -115,25 +122,33 @@ ran p = ran_with p p.outcome
 abbrev pub opened : List Module → Parts → Call → Progress
 opened ms parts call = record { loaded = loaded ms parts call; state = start (loaded ms parts call) call; outcome = None; steps = 0 }
 
--- the exported function of this name is called with these arguments, and no step was done
+-- the exported function of this name is called with these arguments, which are terms and fit the heap, and no step was done
 pub record IsOpened (ms : List Module) (parts : Parts) (owner name : List ℕ) (args : List Term) (limits : Limits) (junk : List ℕ) (p : Progress) : Type 0 where
   pub function : ℕ
   pub exported : exported_number ms owner name (length args) ≡ Some function
   pub is : p ≡ opened ms parts (call_of function args limits junk)
+  pub call : IsCallOf ms (call_of function args limits junk)
 
--- the function of this name is exported with arguments
-pub record IsWithArgs (ms : List Module) (owner name : List ℕ) (args : List Term) : Type 0 where
+-- the function of this name is exported, and the words of the arguments pass the limit of the heap
+pub record DoNotFit (ms : List Module) (owner name : List ℕ) (args : List Term) (limits : Limits) : Type 0 where
   pub function : ℕ
   pub exported : exported_number ms owner name (length args) ≡ Some function
-  pub some : 0 < length args
+  pub more : limits.heap < words_in (map tree_of args)
 
--- what a machine keeps true: the number of items is theirs, the bound fits 64 bits, the names are those of the image,
--- and there is no junk
-pub record IsRunnable (modules : List Module) (parts : Parts) (limits : Limits) (junk : List ℕ) (items next : ℕ) (table : List (List ℕ)) : Type 0 where
+-- a walk over words wants an entry for each word that it may meet, and one more
+abbrev pub entries_of : Parts → Limits → ℕ
+entries_of parts limits = length parts.literals + limits.heap + 1
+
+-- what a machine keeps true: the number of items is theirs, the bound fits 64 bits, there is no junk, the heap has as
+-- many words as the limit says, there are entries for walks, and the atoms of the outcome, once the run is over, have names
+pub record IsRunnable (modules : List Module) (parts : Parts) (limits : Limits) (junk : List ℕ) (items next : ℕ) (table : List (List ℕ)) (heap : Region) (scratch : List ℕ) (outcome : Option Outcome) : Type 0 where
   pub counted : items ≡ items_of modules
   pub few_items : items ≤ MOST_ITEMS
   pub code : length parts.code ≤ MOST_CODE
   pub reductions : limits.reductions ≤ MOST_REDUCTIONS
   pub no_junk : junk ≡ []
   pub place : IsPlaceIn junk next
-  pub names : table ≡ parts.atoms
+  pub heap_words : extent heap ≡ (HEAP_START, limits.heap)
+  pub few_words : limits.heap ≤ MOST_WORDS
+  pub entries : length scratch ≡ entries_of parts limits
+  pub atoms : IfSome outcome (IsAtomsOf table)

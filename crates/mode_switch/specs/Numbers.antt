@@ -4,7 +4,7 @@ use Rattle.beam_code.specs.declared.gates.TheConstants.{BUILT_INS, FIRST_RAISER,
 use Rattle.beam_code.specs.BuiltIns.{BuiltIn, First, built_ins}
 use Rattle.beam_code.specs.State.{x_registers}
 use Rattle.mode_switch.specs.declared.addresses.TheConstants.{GATE_START, GATES, X_START, X_WORDS, STACK_FLOOR, STACK_END, STOP_LINK, MOST_ITEMS, MOST_REDUCTIONS, MOST_WORDS}
-use Rattle.mode_switch.specs.declared.text.TheConstants.{VALUE_STATUS, END_STATUS, NOT_BUILT_STATUS}
+use Rattle.mode_switch.specs.declared.text.TheConstants.{VALUE_STATUS, RAISE_STATUS, END_STATUS, NOT_BUILT_STATUS, MOST_PRINTED}
 use Rattle.image_format.specs.declared.limits.TheConstants.{CODE_START, ITEM_START}
 use Rattle.tagged_words.specs.declared.addresses.TheConstants.{LITERAL_START, HEAP_START, MOST_ATOM_NUMBERS}
 
@@ -36,7 +36,10 @@ pub record TheNumbersAre : Type 0 where
   -- the limits of a run
   pub reductions : MOST_REDUCTIONS ≡ 1000000000
   pub words : MOST_WORDS ≡ 16777216
-  -- the statuses of a value, of an end, and of what is not printed yet
+  -- the most nodes of a term that is printed; the statuses of a value, of an exception, of an end, and of what is not
+  -- printed yet
+  pub printed : MOST_PRINTED ≡ 1000000
   pub value : VALUE_STATUS ≡ 0
+  pub raise : RAISE_STATUS ≡ 1
   pub end : END_STATUS ≡ 2
   pub not_built : NOT_BUILT_STATUS ≡ 11

@@ -1,28 +1,42 @@
 //! The registers and the memory: what a step changes.
 
+ghost use Rattle.beam_code.specs.Meaning.{words_in};
+ghost use Rattle.ir_code.specs.Laying.{CanStand};
 ghost use Rattle.mode_switch.specs.Call.{IsInRange};
 ghost use Rattle.mode_switch.specs.Machine.{stage_of, outcome_by};
 ghost use Rattle.mode_switch.specs.Memory.{load_of, stores_of};
-ghost use Rattle.mode_switch.specs.Run.{first_registers, first_state};
+ghost use Rattle.mode_switch.specs.Opening.{first_state_of};
+ghost use Rattle.mode_switch.specs.Run.{first_registers};
 ghost use Rattle.mode_switch.specs.declared.outcome.End.TheVariants.{MachineFault as Fault, NotBuilt};
 ghost use Rattle.mode_switch.specs.declared.outcome.FaultKind.TheVariants.{Fetch};
+ghost use Rattle.mode_switch.specs.Store.{below_top, extent, used_heap};
 ghost use Rattle.mode_switch.specs.Step.{ended, over, fault_of, gate_step, native_after};
 ghost use Rattle.sparc_code.specs.Code.{decoded};
 ghost use Rattle.sparc_code.specs.Step.{word_effect};
-ghost use Rattle.std.specs.Prelude.{◌≡◌, ◌<◌, ◌+◌, ◌^◌, [], IfOk};
+ghost use Rattle.module_texts.specs.Bounds.{most_arguments};
+ghost use Rattle.std.specs.List.{AllByRecursion};
+ghost use Rattle.std.specs.Prelude.{◌≡◌, ◌<◌, ◌≤◌, ◌+◌, ◌*◌, ◌^◌, length, map, slice_index, IfOk};
+ghost use Rattle.tagged_words.specs.declared.addresses.TheConstants.{HEAP_START as FIRST};
+ghost use Rattle.term_tree.specs.Term.{tree_of};
 
 use crate::addresses::{STACK_END, STOP_LINK, X_START};
 use crate::destination::is_gate;
 use crate::memory::{Memory, Reach};
 use crate::outcome::{End, FaultKind, Outcome};
+use crate::words::UsedWords;
 use beam_code::Limits;
 use sparc_code::{MachineFault, Regs, step};
 use std::alloc::{AllocError, Global};
 use std::marker::Model;
-use tagged_words::HEAP_START;
+use tagged_words::{Atoms, HEAP_START};
+use term_tree::Term;
+use word_laying::words_of_row;
 
 /// The register of a return's value.
 pub(crate) const VALUE_REGISTER: u8 = 8;
+
+/// The register of the heap top.
+pub(crate) const TOP_REGISTER: u8 = 2;
 
 /// Registers, memory, and the place in the list of junk.
 #[derive(Drop)]
@@ -71,18 +85,32 @@ fn end_by(regs: &Regs, done: Result<(), MachineFault>) -> Option<Outcome>
     }
 }
 
-/// The registers before the first step of a call without arguments.
-fn registers_at(limits: &Limits, entry: u32) -> Regs
+/// The word of an argument, 0 where there is none.
+fn argument(words: &[u32], place: usize) -> u32
+    ensures { result ≡ slice_index words.now place }
+{
+    words.get(place).copied().unwrap_or(0)
+}
+
+/// The registers before the first step of a call, for arguments that are these words and take so
+/// many words of the heap.
+fn registers_at(limits: &Limits, entry: u32, laid: u32, words: &[u32]) -> Regs
     requires limits { IsInRange limits.now }
     requires entry { entry + 4 < 2 ^ 32 }
-    ensures { result ≡ first_registers limits.now entry 0 [] }
+    requires laid { laid ≤ limits.now.heap }
+    ensures { result ≡ first_registers limits.now entry laid words.now }
 {
     let mut r = [0; 32];
-    r[2] = HEAP_START;
+    r[2] = HEAP_START + 4 * laid;
     r[4] = HEAP_START + 4 * limits.heap;
     r[5] = STACK_END - 4 * limits.stack;
     r[6] = limits.reductions;
     r[7] = X_START;
+    r[8] = argument(words, 0);
+    r[9] = argument(words, 1);
+    r[10] = argument(words, 2);
+    r[11] = argument(words, 3);
+    r[12] = argument(words, 4);
     r[14] = STACK_END;
     r[15] = STOP_LINK;
     Regs {
@@ -98,19 +126,40 @@ fn registers_at(limits: &Limits, entry: u32) -> Regs
 }
 
 impl Hardware {
-    /// Registers and memory before the first step of a call without arguments. The one error is
+    /// Registers and memory before the first step of a call with these arguments. The one error is
     /// want of memory.
-    pub(crate) fn start(alloc: Global, limits: &Limits, entry: u32) -> Result<Hardware, AllocError>
+    pub(crate) fn start(
+        alloc: Global,
+        limits: &Limits,
+        entry: u32,
+        args: &[Term],
+        atoms: &Atoms,
+    ) -> Result<Hardware, AllocError>
         requires limits { IsInRange limits.now }
         requires entry { entry + 4 < 2 ^ 32 }
-        ensures { IfOk result (λ h. h ≡ first_state limits.now entry [] []) }
+        requires few { length args.now ≤ most_arguments }
+        requires heap { words_in (map tree_of args.now) ≤ limits.now.heap }
+        requires stand { AllByRecursion (CanStand atoms.now) (map tree_of args.now) }
+        ensures { IfOk result (λ h. h ≡ first_state_of limits.now entry atoms.now (map tree_of args.now)) }
     {
-        let memory = Memory::new(alloc, limits)?;
+        let laid = words_of_row(args, 0) as u32;
+        let mut words = Vec::new(alloc);
+        let memory = Memory::start(alloc, limits, &mut words, args, atoms)?;
         Ok(Hardware {
-            regs: registers_at(limits, entry),
+            regs: registers_at(limits, entry, laid, words.as_slice()),
             memory,
             place: 0,
         })
+    }
+
+    /// The words that terms are looked up in, where these are the literals.
+    pub(crate) fn words<'a>(&'a self, literals: &'a [u32]) -> UsedWords<'a>
+        requires start { self.now.memory.heap.start ≡ FIRST }
+        requires low { FIRST + 4 * length self.now.memory.heap.words ≤ 2 ^ 32 }
+        ensures literals { result.literals.now ≡ literals.now }
+        ensures heap { below_top result.top result.heap.now.words ≡ used_heap self.now }
+    {
+        self.memory.used(literals, self.regs.register(TOP_REGISTER))
     }
 
     #[inline]
@@ -167,6 +216,7 @@ impl Hardware {
     pub(crate) fn native(&mut self, literals: &[u32], word: u32) -> Option<Outcome>
         ensures stage { stage_of self.new result ≡ native_after self.old (word_effect (load_of literals.now self.old.memory) (stores_of self.old.memory) self.old.regs (decoded word)) }
         ensures place { self.new.place ≡ self.old.place }
+        ensures heap { extent self.new.memory.heap ≡ extent self.old.memory.heap }
     {
         let mut reach = Reach {
             literals,

@@ -2,8 +2,10 @@
 #![tactic(auto)]
 
 mod addresses;
+mod arguments;
 mod destination;
 mod hardware;
+mod laws;
 mod lookup;
 mod machine;
 mod memory;
@@ -11,13 +13,15 @@ mod numbers;
 mod opening;
 mod outcome;
 mod text;
+mod words;
 
 pub use addresses::{
     GATE_START, GATES, MOST_ITEMS, MOST_REDUCTIONS, MOST_WORDS, STACK_END, STACK_FLOOR, STOP_LINK,
     X_START, X_WORDS,
 };
 pub use beam_code::{Limits, RaiseClass};
+pub use laws::one_line_is_said;
 pub use machine::{Call, Machine, OpenRefusal};
 pub use numbers::the_numbers_are;
 pub use outcome::{End, FaultKind, Outcome, Step};
-pub use text::{END_STATUS, NOT_BUILT_STATUS, VALUE_STATUS};
+pub use text::{END_STATUS, MOST_PRINTED, NOT_BUILT_STATUS, RAISE_STATUS, VALUE_STATUS};

@@ -1,17 +1,27 @@
 //! The words that loads and stores reach.
 
+ghost use Rattle.beam_code.specs.Meaning.{words_in};
+ghost use Rattle.ir_code.specs.Laying.{CanStand};
 ghost use Rattle.mode_switch.specs.Call.{IsInRange};
 ghost use Rattle.mode_switch.specs.Memory.{literals_at, load_of, stores_of, stored};
 ghost use Rattle.mode_switch.specs.Run.{first_memory};
-ghost use Rattle.std.specs.Prelude.{◌≡◌, [], IfOk};
-ghost use Rattle.tagged_words.specs.Region.{word_at, zeros_from};
+ghost use Rattle.module_texts.specs.Bounds.{most_arguments};
+ghost use Rattle.std.specs.List.{AllByRecursion};
+ghost use Rattle.std.specs.Prelude.{◌≡◌, ◌+◌, ◌*◌, ◌^◌, ◌≤◌, [], length, map, IfOk, OnOk};
+ghost use Rattle.tagged_words.specs.Laid.{laid_in_turn, words_in_turn};
+ghost use Rattle.tagged_words.specs.Region.{word_at};
+ghost use Rattle.tagged_words.specs.declared.addresses.TheConstants.{HEAP_START as FIRST};
+ghost use Rattle.term_tree.specs.Term.{tree_of};
 
-use crate::addresses::{STACK_END, STACK_FLOOR, X_START, X_WORDS};
+use crate::addresses::{STACK_END, STACK_FLOOR, X_START};
+use crate::arguments::{heap_with, xs_with};
+use crate::words::UsedWords;
 use beam_code::Limits;
 use sparc_code::WordMemory;
 use std::alloc::{AllocError, Global};
 use std::marker::Model;
-use tagged_words::{HEAP_START, LITERAL_START, WordBlock};
+use tagged_words::{Atoms, HEAP_START, LITERAL_START, WordBlock};
+use term_tree::Term;
 
 /// Heap, x area and stack, each in its range of addresses: the words that stores reach.
 #[derive(Drop)]
@@ -30,15 +40,38 @@ impl Model for Memory {
 }
 
 impl Memory {
-    /// All words are 0. The one error is want of memory.
-    pub(crate) fn new(alloc: Global, limits: &Limits) -> Result<Memory, AllocError>
-        requires { IsInRange limits.now }
-        ensures { IfOk result (λ m. m ≡ first_memory limits.now [] []) }
+    /// The memory before the first step of a call with these arguments, whose words are kept. The
+    /// one error is want of memory.
+    pub(crate) fn start(
+        alloc: Global,
+        limits: &Limits,
+        words: &mut Vec<u32>,
+        args: &[Term],
+        atoms: &Atoms,
+    ) -> Result<Memory, AllocError>
+        requires limits { IsInRange limits.now }
+        requires none { words.old.items ≡ [] }
+        requires few { length args.now ≤ most_arguments }
+        requires heap { words_in (map tree_of args.now) ≤ limits.now.heap }
+        requires stand { AllByRecursion (CanStand atoms.now) (map tree_of args.now) }
+        ensures memory { IfOk result (λ m. m ≡ first_memory limits.now (laid_in_turn atoms.now FIRST (map tree_of args.now)) words.new.items) }
+        ensures words { OnOk result (words.new.items ≡ words_in_turn atoms.now FIRST (map tree_of args.now)) }
     {
-        let heap = WordBlock::new(alloc, HEAP_START, limits.heap)?;
-        let xs = WordBlock::new(alloc, X_START, X_WORDS)?;
+        let heap = heap_with(alloc, limits, words, args, atoms)?;
+        let xs = xs_with(alloc, words.as_slice())?;
         let stack = WordBlock::new(alloc, STACK_END - 4 * limits.stack, limits.stack)?;
         Ok(Memory { heap, xs, stack })
+    }
+
+    /// The words that terms are looked up in, where the heap has this top.
+    pub(crate) fn used<'a>(&'a self, literals: &'a [u32], top: u32) -> UsedWords<'a>
+        requires start { self.now.heap.start ≡ FIRST }
+        requires low { FIRST + 4 * length self.now.heap.words ≤ 2 ^ 32 }
+        ensures literals { result.literals.now ≡ literals.now }
+        ensures heap { result.heap.now ≡ self.now.heap }
+        ensures top { result.top ≡ top }
+    {
+        UsedWords::new(literals, &self.heap, top)
     }
 
     /// The word at an address, where these are the literal words.
@@ -77,7 +110,7 @@ impl Memory {
 
 /// The literal word at an address.
 #[inline]
-fn literal_at(literals: &[u32], addr: u32) -> Option<u32>
+pub(crate) fn literal_at(literals: &[u32], addr: u32) -> Option<u32>
     ensures { result ≡ word_at (literals_at literals.now) addr }
 {
     if addr % 4 != 0 || addr < LITERAL_START {

@@ -1,18 +1,27 @@
 //! The printed line of an outcome.
 
-ghost use Rattle.mode_switch.specs.State.{Loaded, MixedState};
 ghost use Rattle.mode_switch.specs.Text as says;
-ghost use Rattle.std.specs.Fmt.{digit_glyph, signed_decimal};
-ghost use Rattle.std.specs.Prelude.{◌≡◌, ◌<◌, ◌∷◌, ◌++◌, [], true, IfOk, OnOk, codes, string_bytes};
-ghost use Rattle.tagged_words.specs.Word.{class_of};
+ghost use Rattle.std.specs.Fmt.{digit_glyph};
+ghost use Rattle.std.specs.Prelude.{◌≡◌, ◌<◌, ◌∷◌, ◌++◌, [], true, IfOk, OnOk, codes, length, string_bytes};
+ghost use Rattle.tagged_words.specs.Store.{words_in};
+ghost use Rattle.term_tree.specs.Text.{text_of};
+ghost use Rattle.term_tree.specs.Tree as t;
+ghost use Rattle.word_walks.specs.Texts.{spelling_of};
 
 use crate::outcome::{End, FaultKind, Outcome};
+use beam_code::RaiseClass;
 use std::alloc::{AllocError, Global};
 use std::fmt::Write;
-use tagged_words::{Class, class};
+use tagged_words::{Atoms, Words};
+use term_tree::name_text;
+use word_walks::{Scratch, WordText, word_text};
 
+/// A term of more nodes than this is printed as three dots.
+pub const MOST_PRINTED: u32 = 1_000_000;
 /// The status of a value.
 pub const VALUE_STATUS: u8 = 0;
+/// The status of an exception.
+pub const RAISE_STATUS: u8 = 1;
 /// The status of an end.
 pub const END_STATUS: u8 = 2;
 /// The status of what is not printed yet.
@@ -80,19 +89,26 @@ fn kind_name(kind: FaultKind) -> &'static str
     }
 }
 
-/// The line of an end with this name.
-fn end_line(alloc: Global, name: &str) -> Result<String, AllocError>
-    ensures { IfOk result (λ line. string_bytes line ≡ codes "end " ++ name.now ++ codes "\n") }
+/// A line of a text behind a head.
+fn line_of(alloc: Global, head: &str, text: &str) -> Result<String, AllocError>
+    ensures { IfOk result (λ line. string_bytes line ≡ head.now ++ text.now ++ codes "\n") }
 {
-    let mut line = String::from_str(alloc, "end ")?;
-    line.push_str(name)?;
+    let mut line = String::from_str(alloc, head)?;
+    line.push_str(text)?;
     line.push_str("\n")?;
     Ok(line)
 }
 
+/// The line of an end with this name.
+fn end_line(alloc: Global, name: &str) -> Result<String, AllocError>
+    ensures { IfOk result (λ line. string_bytes line ≡ codes "end " ++ name.now ++ codes "\n") }
+{
+    line_of(alloc, "end ", name)
+}
+
 /// The line of a fault.
 fn fault_line(alloc: Global, kind: FaultKind, at: u32) -> Result<String, AllocError>
-    ensures { IfOk result (λ line. string_bytes line ≡ codes "end " ++ (codes "machine_fault " ++ says.kind_name kind ++ codes " " ++ says.word_text at) ++ codes "\n") }
+    ensures { IfOk result (λ line. string_bytes line ≡ codes "end " ++ says.machine_fault kind at ++ codes "\n") }
 {
     let mut line = String::from_str(alloc, "end machine_fault ")?;
     line.push_str(kind_name(kind))?;
@@ -102,24 +118,47 @@ fn fault_line(alloc: Global, kind: FaultKind, at: u32) -> Result<String, AllocEr
     Ok(line)
 }
 
-fn value_line(alloc: Global, number: i32) -> Result<String, AllocError>
-    ensures { IfOk result (λ line. string_bytes line ≡ codes "return " ++ signed_decimal number ++ codes "\n") }
+/// Adds the atom with a number.
+fn put_name(alloc: Global, line: &mut String, atoms: &Atoms, number: u32) -> Result<(), AllocError>
+    requires { number < length atoms.now }
+    ensures { OnOk result (string_bytes line.new ≡ string_bytes line.old ++ text_of (t.Atom (says.name_at atoms.now number))) }
 {
-    let mut line = String::from_str(alloc, "return ")?;
-    write!(line, "{number}")?;
+    let text = name_text(alloc, &atoms.names()[number as usize])?;
+    line.push_str(text.as_str())
+}
+
+/// The line of a call to a function that is not provided.
+fn not_provided_line(
+    alloc: Global,
+    atoms: &Atoms,
+    owner: u32,
+    name: u32,
+    arity: u32,
+) -> Result<String, AllocError>
+    requires owner { owner < length atoms.now }
+    requires name { name < length atoms.now }
+    ensures { IfOk result (λ line. string_bytes line ≡ codes "end " ++ says.not_provided (says.name_at atoms.now owner) (says.name_at atoms.now name) arity ++ codes "\n") }
+{
+    let mut line = String::from_str(alloc, "end not_provided ")?;
+    put_name(alloc, &mut line, atoms, owner)?;
+    line.push_str(":")?;
+    put_name(alloc, &mut line, atoms, name)?;
+    line.push_str("/")?;
+    write!(line, "{arity}")?;
     line.push_str("\n")?;
     Ok(line)
 }
 
-/// What is said of an outcome that is not printed yet.
+/// What is said of an end that is not printed yet.
 fn not_built(alloc: Global) -> (String, u8)
     ensures { (string_bytes result.0, result.1) ≡ says.not_built }
 {
     (String::new(alloc), NOT_BUILT_STATUS)
 }
 
-fn end_text(alloc: Global, end: &End) -> Result<(String, u8), AllocError>
-    ensures { IfOk result (λ t. (string_bytes t.0, t.1) ≡ says.end_text end.now) }
+fn end_text(alloc: Global, atoms: &Atoms, end: &End) -> Result<(String, u8), AllocError>
+    requires { says.IsEndAtoms atoms.now end.now }
+    ensures { IfOk result (λ t. says.end_text atoms.now end.now ≡ (string_bytes t.0, t.1)) }
 {
     let line = match end {
         End::Bignum => end_line(alloc, "bignum")?,
@@ -127,34 +166,87 @@ fn end_text(alloc: Global, end: &End) -> Result<(String, u8), AllocError>
         End::StackFull => end_line(alloc, "stack_full")?,
         End::OutOfReductions => end_line(alloc, "out_of_reductions")?,
         End::BadOperand => end_line(alloc, "bad_operand")?,
+        End::NotProvided {
+            module,
+            function,
+            arity,
+        } => not_provided_line(alloc, atoms, *module, *function, *arity)?,
         End::MachineFault { kind, address } => fault_line(alloc, *kind, *address)?,
         End::StepsSpent => end_line(alloc, "steps_spent")?,
-        End::NotProvided { .. } | End::NotBuilt { .. } => return Ok(not_built(alloc)),
+        End::NotBuilt { .. } => return Ok(not_built(alloc)),
     };
     Ok((line, END_STATUS))
 }
 
-fn value_text(alloc: Global, word: u32) -> Result<(String, u8), AllocError>
-    ensures { IfOk result (λ t. (string_bytes t.0, t.1) ≡ says.value_text (class_of word)) }
+/// What stands before the reason of an exception of a class.
+fn raise_head(class: RaiseClass) -> &'static str
+    ensures { result.now ≡ says.raise_head class }
 {
-    match class(word) {
-        Class::Small(number) => {
-            let line = value_line(alloc, number)?;
-            Ok((line, VALUE_STATUS))
-        }
-        _ => Ok(not_built(alloc)),
+    match class {
+        RaiseClass::Error => "raise error ",
+        RaiseClass::Exit => "raise exit ",
+        RaiseClass::Throw => "raise throw ",
     }
 }
 
+/// The line of a term, given its text.
+fn term_line(
+    alloc: Global,
+    head: &str,
+    status: u8,
+    text: &WordText,
+) -> Result<(String, u8), AllocError>
+    ensures { IfOk result (λ t. says.term_line head.now status (spelling_of text.now) ≡ (string_bytes t.0, t.1)) }
+{
+    match text {
+        WordText::Text { text, .. } => Ok((line_of(alloc, head, text.as_str())?, status)),
+        WordText::Large => Ok((line_of(alloc, head, "...")?, status)),
+        WordText::NotATerm { word } => {
+            Ok((fault_line(alloc, FaultKind::Term, *word)?, END_STATUS))
+        }
+    }
+}
+
+/// The line of the term of a word.
+fn word_line<W: Words>(
+    alloc: Global,
+    words: &W,
+    atoms: &Atoms,
+    scratch: &mut Scratch,
+    head: &str,
+    status: u8,
+    word: u32,
+) -> Result<(String, u8), AllocError>
+    requires room { words_in (W.store words.now) < length scratch.old }
+    ensures line { IfOk result (λ t. says.IsTermLine (W.store words.now) atoms.now head.now status word (string_bytes t.0, t.1)) }
+    ensures same { length scratch.new ≡ length scratch.old }
+{
+    let text = word_text(alloc, words, atoms, word, MOST_PRINTED, scratch)?;
+    term_line(alloc, head, status, &text)
+}
+
 /// The line of an outcome, ended by a line feed, and its status; the empty text and a status of
-/// its own where the outcome holds a term that is no small integer, and of an end that is not
-/// built yet.
-pub(crate) fn text_of_outcome(alloc: Global, outcome: &Outcome) -> Result<(String, u8), AllocError>
-    ensures { (g : Loaded) (s : MixedState) → IfOk result (λ t. (string_bytes t.0, t.1) ≡ says.said g s outcome.now) }
+/// its own for an end that is not built yet.
+pub(crate) fn text_of_outcome<W: Words>(
+    alloc: Global,
+    words: &W,
+    atoms: &Atoms,
+    scratch: &mut Scratch,
+    outcome: &Outcome,
+) -> Result<(String, u8), AllocError>
+    requires room { words_in (W.store words.now) < length scratch.old }
+    requires atoms { says.IsAtomsOf atoms.now outcome.now }
+    ensures said { IfOk result (λ t. says.IsLineIn (W.store words.now) atoms.now outcome.now (string_bytes t.0, t.1)) }
+    ensures same { length scratch.new ≡ length scratch.old }
 {
     match outcome {
-        Outcome::Returned(word) => value_text(alloc, *word),
-        Outcome::Raised { .. } => Ok(not_built(alloc)),
-        Outcome::Ended(end) => end_text(alloc, end),
+        Outcome::Returned(word) => {
+            word_line(alloc, words, atoms, scratch, "return ", VALUE_STATUS, *word)
+        }
+        Outcome::Raised { class, reason } => {
+            let head = raise_head(*class);
+            word_line(alloc, words, atoms, scratch, head, RAISE_STATUS, *reason)
+        }
+        Outcome::Ended(end) => end_text(alloc, atoms, end),
     }
 }

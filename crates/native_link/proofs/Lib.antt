@@ -1,5 +1,5 @@
-pub mod KnownLaws
 pub mod Sizes
 pub mod Lookups
+pub mod Rows
 pub mod Second
 pub mod Tables

@@ -1,17 +1,17 @@
--- How many bytes the fields of an image take, and how many functions modules have.
-use Rattle.std.proofs.Common.{◌≡◌, ℕ, ◌+◌, ◌*◌, ◌<◌, ◌≤◌, List, [], ◌∷◌, ◌++◌, length, get_or, take, drop, map, refl, sym, ap, ◌∙◌, arith}
+-- How many bytes the fields of an image take.
+use Rattle.std.proofs.Common.{◌≡◌, ℕ, ◌+◌, ◌*◌, ◌<◌, ◌≤◌, List, [], ◌∷◌, ◌++◌, length, get_or, take, drop, refl, sym, ap, ◌∙◌, arith}
 use Rattle.std.specs.Prelude.{replicate}
 use Rattle.std.specs.List.{flat_map}
-use Rattle.std.proofs.lemmas.List.{length-append, length-replicate, length-map, take_more, take-append-drop, append_assoc}
+use Rattle.std.proofs.lemmas.List.{length-append, length-replicate, take_more, take-append-drop}
 use Rattle.std.proofs.lemmas.List.Concat.{flat_map-append, flat_map-cons}
-use Rattle.beam_code.specs.declared.module.Module.{Module}
-use Rattle.beam_code.specs.declared.module.Function.{Function}
-use Rattle.beam_code.specs.Function.{Placed, all_functions}
 use Rattle.image_format.specs.declared.limits.TheConstants.{MAGIC, VERSION}
 use Rattle.image_format.specs.declared.parts.Parts.{Parts}
+use Rattle.image_format.specs.declared.parts.Descriptor.{Descriptor}
 use Rattle.image_format.specs.declared.parts.Native.{Native}
-use Rattle.native_link.specs.Checking.{atom_count_offset, native_offset}
-use Rattle.image_format.specs.Spelling.{word, padding, text, counted, native, descriptor, spelling}
+use Rattle.image_format.proofs.Masks.{length_mask}
+use Rattle.image_format.specs.Mask.{mask, mask_words}
+use Rattle.native_link.specs.Checking.{before_atoms, before_descriptors, before_natives, before_roots, first_descriptor_offset}
+use Rattle.image_format.specs.Spelling.{word, padding, text, counted, native, descriptor, kind_number, spelling}
 
 length_word : (n : ℕ) → length (word n) ≡ 4
 unfolding word
@@ -59,52 +59,81 @@ length_natives (n ∷ ns) = omega (arith, ap length (flat_map-cons native n ns),
 length_counted : {A : Type 0} (f : A → List ℕ) (xs : List A) → length (counted f xs) ≡ 4 + length (flat_map f xs)
 length_counted f xs = omega (arith, length-append (word (length xs)) (flat_map f xs), length_word (length xs))
 
-pub atom_count_size : (p : Parts) → atom_count_offset p ≡ 12 + length (flat_map text p.texts)
-atom_count_size p = omega (arith, length-append (word MAGIC ++ word VERSION) (counted text p.texts), length-append (word MAGIC) (word VERSION), length_word MAGIC, length_word VERSION, length_counted text p.texts)
+-- what stands before each list takes so many bytes
+pub atoms_from : (p : Parts) → length (before_atoms p) ≡ 12 + length (flat_map text p.texts)
+atoms_from p = omega (arith, length-append (word MAGIC ++ word VERSION) (counted text p.texts), length-append (word MAGIC) (word VERSION), length_word MAGIC, length_word VERSION, length_counted text p.texts)
 
-native_size : (p : Parts) (i : ℕ) → native_offset p i ≡ 28 + length (flat_map text p.texts) + length (flat_map text p.atoms) + 4 * (length p.literals + length p.roots) + 12 * i
-native_size p i =
-    let h = word MAGIC ++ word VERSION ++ counted text p.texts in
+pub roots_from : (p : Parts) → length (before_roots p) ≡ length (before_atoms p) + 8 + length (flat_map text p.atoms) + 4 * length p.literals
+roots_from p =
+    let h = before_atoms p in
     omega (
       arith,
-      length-append (h ++ counted text p.atoms ++ counted word p.literals) (counted word p.roots),
       length-append (h ++ counted text p.atoms) (counted word p.literals),
       length-append h (counted text p.atoms),
-      atom_count_size p,
       length_counted text p.atoms,
       length_counted word p.literals,
-      length_counted word p.roots,
       length_words p.literals,
-      length_words p.roots,
     )
 
-native_within : (p : Parts) (i : ℕ) → i < length p.natives → native_offset p i ≤ length (spelling p)
-native_within p i lt =
-    let h = word MAGIC ++ word VERSION ++ counted text p.texts ++ counted text p.atoms ++ counted word p.literals ++ counted word p.roots in
-    omega (arith, length-append (h ++ counted native p.natives ++ counted word p.code) (counted descriptor p.descriptors), length-append (h ++ counted native p.natives) (counted word p.code), length-append h (counted native p.natives), length_counted native p.natives, length_natives p.natives)
+pub natives_from : (p : Parts) → length (before_natives p) ≡ length (before_roots p) + 4 + 4 * length p.roots
+natives_from p = omega (arith, length-append (before_roots p) (counted word p.roots), length_counted word p.roots, length_words p.roots)
 
--- where a native function stands is within the image
-pub native_at : (p : Parts) (i texts names literals roots : ℕ) → texts ≡ length (flat_map text p.texts) → names ≡ length (flat_map text p.atoms) → literals ≡ length p.literals → roots ≡ length p.roots
-    → i < length p.natives → (28 + texts + names + 4 * (literals + roots) + 12 * i ≡ native_offset p i) × (28 + texts + names + 4 * (literals + roots) + 12 * i ≤ length (spelling p))
-native_at p i texts names literals roots a b c d lt = (omega (arith, native_size p i, a, b, c, d), omega (arith, native_size p i, native_within p i lt, a, b, c, d))
+pub descriptors_from : (p : Parts) → first_descriptor_offset p ≡ length (before_natives p) + 12 + 12 * length p.natives + 4 * length p.code
+descriptors_from p =
+    let h = before_natives p in
+    omega (
+      arith,
+      length-append (h ++ counted native p.natives) (counted word p.code),
+      length-append h (counted native p.natives),
+      length_counted native p.natives,
+      length_natives p.natives,
+      length_counted word p.code,
+      length_words p.code,
+    )
 
--- ---- functions
+-- and the whole image
+pub all_bytes : (p : Parts) → length (spelling p) ≡ first_descriptor_offset p + length (flat_map descriptor p.descriptors)
+all_bytes p = omega (arith, length-append (before_descriptors p) (counted descriptor p.descriptors), length_counted descriptor p.descriptors)
 
-functions_append : (ms ns : List Module) → all_functions (ms ++ ns) ≡ all_functions ms ++ all_functions ns
-functions_append [] ns = refl
-functions_append (m ∷ ms) ns =
-    let here : List Placed = map (λ f. record { owner = m; function = f }) m.functions in
-    ap (λ (l : List Placed). here ++ l) (functions_append ms ns) ∙ sym (append_assoc here (all_functions ms) (all_functions ns))
+-- an image's parts are within it
+pub within : (p : Parts) (most : ℕ) → length (spelling p) ≤ most
+    → (12 + length (flat_map text p.texts) + 4 ≤ most) × (length (before_atoms p) + 8 + length (flat_map text p.atoms) + 4 * length p.literals + 4 ≤ most) × (length (before_roots p) + 4 + 4 * length p.roots + 4 ≤ most) × (length (before_natives p) + 12 + 12 * length p.natives + 4 * length p.code ≤ most)
+within p most h =
+    let a = atoms_from p in
+    let r = roots_from p in
+    let n = natives_from p in
+    let d = descriptors_from p in
+    let all = all_bytes p in
+    (omega (arith, a, r, n, d, all, h), omega (arith, r, n, d, all, h), omega (arith, n, d, all, h), omega (arith, d, all, h))
 
-abbrev mark : Module → Function → Placed
-mark m f = record { owner = m; function = f }
+length_descriptor : (d : Descriptor) → length (descriptor d) ≡ 24 + 4 * mask_words d.frame
+length_descriptor d =
+    let a = word d.ret in
+    let b = word d.fid in
+    let c = word d.item in
+    let e = word d.frame in
+    let k = word (kind_number d.kind) in
+    let h = word d.handler in
+    omega (
+      arith,
+      length-append (a ++ b ++ c ++ e ++ k ++ h) (flat_map word (mask d.frame d.live)),
+      length-append (a ++ b ++ c ++ e ++ k) h,
+      length-append (a ++ b ++ c ++ e) k,
+      length-append (a ++ b ++ c) e,
+      length-append (a ++ b) c,
+      length-append a b,
+      length_word d.ret,
+      length_word d.fid,
+      length_word d.item,
+      length_word d.frame,
+      length_word (kind_number d.kind),
+      length_word d.handler,
+      length_words (mask d.frame d.live),
+      length_mask d.frame d.live,
+    )
 
-functions_of_one : (m : Module) → length (all_functions (m ∷ [])) ≡ length m.functions
-functions_of_one m =
-    let place = λ (f : Function). mark m f in
-    omega (arith, length-append (map place m.functions) [], length-map m.functions place)
-
-pub functions_more : (ms : List Module) (i : ℕ) (m : Module) → i < length ms → m ≡ get_or ms i m → length (all_functions (take (i + 1) ms)) ≡ length (all_functions (take i ms)) + length m.functions
-functions_more ms i m lt e =
-    let whole : all_functions (take (i + 1) ms) ≡ all_functions (take i ms) ++ all_functions (m ∷ []) = ap all_functions (take_more ms i m lt ∙ ap (λ y. take i ms ++ y ∷ []) (sym e)) ∙ functions_append (take i ms) (m ∷ []) in
-    omega (arith, ap length whole, length-append (all_functions (take i ms)) (all_functions (m ∷ [])), functions_of_one m)
+-- one more descriptor
+pub descriptor_more : (ds : List Descriptor) (i : ℕ) (d : Descriptor) → i < length ds → d ≡ get_or ds i d
+    → (length (descriptor d) ≡ 24 + 4 * mask_words d.frame) × (length (flat_map descriptor (take (i + 1) ds)) ≡ length (flat_map descriptor (take i ds)) + length (descriptor d))
+    × (length (flat_map descriptor (take (i + 1) ds)) ≤ length (flat_map descriptor ds))
+descriptor_more ds i d lt e = (length_descriptor d, size_more descriptor ds i d lt e, size_within descriptor ds (i + 1))

@@ -1,6 +1,6 @@
 -- An image that was read (docs/FORMAT.md): its parts meet the rules, its texts are those of modules in the profile, and
--- these ask no more of the parts.
-use Rattle.std.specs.Prelude.{ℕ, ◌≡◌, ◌⊎◌, Bool, true, false, not, ◌||◌, ◌==◌, List, length, Result, Ok, Err}
+-- these ask nothing of the parts in vain.
+use Rattle.std.specs.Prelude.{ℕ, ◌≡◌, ◌⊎◌, List, Result, Ok, Err}
 use Rattle.beam_code.specs.declared.module.Module.{Module}
 use Rattle.image_format.specs.declared.parts.Parts.{Parts}
 use Rattle.image_format.specs.declared.refusal.Flaw.{Flaw}
@@ -21,18 +21,9 @@ pub record IsLinked (l : Linked) : Type 0 where
   pub profiled : AreProfiled l.parts.texts l.modules
   pub checked : checking l.parts l.modules ≡ Ok tt
 
--- whether there is more than texts, atoms, native functions and code
-abbrev pub has_more : Parts → Bool
-has_more p = not (length p.literals == 0) || not (length p.roots == 0) || not (length p.descriptors == 0)
-
--- the bytes have these parts, and there is no more to them
-pub record HasParts (bytes : List ℕ) (p : Parts) : Type 0 where
-  pub parts : reading bytes ≡ Ok p
-  pub no_more : has_more p ≡ false
-
--- and the texts are those of these modules in the profile
+-- the bytes have these parts, whose texts are those of these modules in the profile
 pub record Readable (bytes : List ℕ) (p : Parts) (ms : List Module) : Type 0 where
-  pub has : HasParts bytes p
+  pub parts : reading bytes ≡ Ok p
   pub profiled : AreProfiled p.texts ms
 
 -- a field of the parts is refused by what the modules ask of it
@@ -45,27 +36,30 @@ pub record IsAskedInVain (bytes : List ℕ) (fault : FieldFault) : Type 0 where
 abbrev pub at_field : Flaw → ℕ → FieldFault
 at_field flaw offset = record { flaw = flaw; offset = offset }
 
--- what reading an image answers: the image; or the first field that breaks its rule; or that there is more to the parts;
--- or the first text that is none of a module; or why the modules are out of the profile; or the first field that they
--- refuse
+-- what reading an image answers: the image; or the first field that breaks its rule; or the first text that is none of a
+-- module; or why the modules are out of the profile; or the first field that they refuse
 abbrev pub Answers : List ℕ → Result Linked ImageRefusal → Type 0
 Answers bytes (Ok l) = Readable bytes l.parts l.modules × (checking l.parts l.modules ≡ Ok tt)
 Answers bytes (Err (image.Field flaw offset)) = (reading bytes ≡ Err (at_field flaw offset)) ⊎ IsAskedInVain bytes (at_field flaw offset)
-Answers bytes (Err image.NotBuilt) = (p : Parts) × (reading bytes ≡ Ok p) × (has_more p ≡ true)
-Answers bytes (Err (image.Module index e)) = (p : Parts) × HasParts bytes p × IsUnread p.texts index e
-Answers bytes (Err (image.Check r)) = (p : Parts) × HasParts bytes p × AreOut p.texts r
+Answers bytes (Err (image.Module index e)) = (p : Parts) × (reading bytes ≡ Ok p) × IsUnread p.texts index e
+Answers bytes (Err (image.Check r)) = (p : Parts) × (reading bytes ≡ Ok p) × AreOut p.texts r
 Answers bytes (Err (image.Memory e)) = Unit {0}
 
 -- the modules of an image's texts, or why there are none
 abbrev pub Built : Result (List Module) ImageRefusal → Parts → Type 0
-Built (Ok ms) p = AreProfiled p.texts ms × (has_more p ≡ false)
+Built (Ok ms) p = AreProfiled p.texts ms
 Built (Err (image.Field flaw offset)) p = ⊥
-Built (Err image.NotBuilt) p = has_more p ≡ true
-Built (Err (image.Module index e)) p = IsUnread p.texts index e × (has_more p ≡ false)
-Built (Err (image.Check r)) p = AreOut p.texts r × (has_more p ≡ false)
+Built (Err (image.Module index e)) p = IsUnread p.texts index e
+Built (Err (image.Check r)) p = AreOut p.texts r
 Built (Err (image.Memory e)) p = Unit {0}
 
 -- the refusal of a field, as one of an image
 abbrev pub of_format : FormatRefusal → ImageRefusal
 of_format (format.Field flaw offset) = image.Field flaw offset
 of_format (format.Memory e) = image.Memory e
+
+-- the image with these bytes, or want of memory
+abbrev pub IsReadAs : Linked → Result Linked ImageRefusal → Type 0
+IsReadAs l (Ok read) = read ≡ l
+IsReadAs l (Err (image.Memory e)) = Unit {0}
+IsReadAs l (Err e) = ⊥

@@ -1,4 +1,5 @@
 pub mod Lookup
-pub mod Known
+pub mod Places
 pub mod Checking
 pub mod Image
+pub mod Laws

@@ -4,9 +4,8 @@ ghost use Rattle.native_link.specs.Checking.{checked_image};
 ghost use Rattle.image_format.specs.Cursor.{Gives};
 ghost use Rattle.image_format.specs.Fitting.{IsFitting, IsSized, total_length, NativeFits, after_native, first_turn, DescriptorFits, after_descriptor};
 ghost use Rattle.tagged_words.specs.Follow.{Follow};
-ghost use Rattle.native_link.specs.Image.{Built, Answers, has_more};
+ghost use Rattle.native_link.specs.Image.{Built, Answers};
 ghost use Rattle.native_link.specs.Lookup.{native_of, native_entry_of, descriptor_of, Splits};
-ghost use Rattle.image_format.specs.Reading.{reading};
 ghost use Rattle.image_format.specs.Reading.{reading};
 ghost use Rattle.image_format.specs.Spelling.{spelling};
 ghost use Rattle.beam_code.specs.declared.module.TheConstants.{MOST_TEXT_BYTES};
@@ -78,7 +77,7 @@ fn place_of_native(natives: &[Native], fid: u32) -> usize
     low
 }
 
-fn native_with(natives: &[Native], fid: u32) -> Option<Native>
+pub(crate) fn native_with(natives: &[Native], fid: u32) -> Option<Native>
     requires { Follow NativeFits after_native first_turn natives.now }
     ensures { result ≡ native_of natives.now fid }
 {
@@ -120,21 +119,12 @@ fn descriptor_with(descriptors: &[Descriptor], ret: u32) -> Option<&Descriptor>
     }
 }
 
-fn is_more(parts: &Parts) -> bool
-    ensures { result ≡ has_more parts.now }
-{
-    parts.literals.len() != 0 || parts.roots.len() != 0 || parts.descriptors.len() != 0
-}
-
-/// The modules of the texts of these parts, where there is no more to them.
+/// The modules of the texts of these parts.
 fn built_of(alloc: Global, parts: &Parts) -> Result<Checked, ImageRefusal>
     requires few { length parts.now.texts ≤ MOST_MODULES }
     requires short { total_length parts.now.texts ≤ MOST_TEXT_BYTES }
     ensures { Built result parts.now }
 {
-    if is_more(parts) {
-        return Err(ImageRefusal::NotBuilt);
-    }
     match check_texts(alloc, parts.texts.as_slice()) {
         Ok(checked) => Ok(checked),
         Err(TextsRefusal::Module { index, refusal }) => {

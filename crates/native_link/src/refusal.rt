@@ -14,10 +14,6 @@ pub enum ImageRefusal {
     /// byte, in bytes from 0.
     #[error("a field is wrong")]
     Field { flaw: Flaw, offset: u32 },
-    /// The bytes are an image so far, but one that is not read yet: there is a literal word, a root
-    /// or a descriptor.
-    #[error("not built")]
-    NotBuilt,
     /// The first text that is none of a module, by its place from 0, and why.
     #[error("a text is none of a module")]
     Module { index: u32, refusal: ModuleRefusal },

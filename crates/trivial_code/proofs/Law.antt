@@ -1,9 +1,9 @@
 -- Images of trivial functions are faithful.
-use Rattle.std.proofs.Common.{◌≡◌, ◌≢◌, ℕ, zero, suc, ◌+◌, ◌-◌, ◌*◌, ◌/◌, ◌<◌, ◌≤◌, inl, inr, Some, None, List, [], ◌∷◌, ◌++◌, length, map, take, replicate, slice_get, slice_index, refl, ap, subst, sym, ◌∙◌, arith}
+use Rattle.std.proofs.Common.{◌≡◌, ℕ, zero, suc, ◌+◌, ◌-◌, ◌*◌, ◌/◌, ◌<◌, ◌≤◌, inl, inr, Bool, true, false, Some, None, List, [], ◌∷◌, ◌++◌, length, map, take, replicate, slice_get, slice_index, nat_eq, nat_lt, refl, ap, subst, sym, ◌∙◌, arith, if◌then◌else◌}
 use Rattle.std.proofs.lemmas.Bool.{eqb-true}
 use Rattle.std.proofs.lemmas.List.{take_at}
-use Rattle.std.proofs.lemmas.Option.{slice_get_within}
-use Rattle.std.specs.List.{AllByRecursion}
+use Rattle.std.proofs.lemmas.Option.{slice_get-get_or, slice_get_within}
+use Rattle.std.proofs.lemmas.Bool.Decides.{nat_tests}
 use Rattle.std.specs.Option.{option_map}
 use Rattle.beam_code.specs.declared.call.Limits.{Limits}
 use Rattle.beam_code.specs.declared.module.Module.{Module}
@@ -12,49 +12,53 @@ use Rattle.beam_code.specs.Function.{Placed, all_functions, function_at, is_name
 use Rattle.beam_code.specs.Meaning.{most_rows, meaning, first_state, words_in}
 use Rattle.beam_code.specs.State as b
 use Rattle.beam_code.proofs.Numbers.{Found, named, arity_passes}
-use Rattle.trivial_code.proofs.Acts.{given_fits}
-use Rattle.trivial_code.proofs.Paths.{Enters, spends, fills, passes, entered, entered_stands, entered_keeps, full_keeps, returned, returns, word_given, word_returned}
-use Rattle.trivial_code.proofs.Rows.{lt_or_le, MeansSo, begun, came_with, held, means_spent, means_full, means_value, Means, means}
-use Rattle.trivial_code.proofs.Steps.{Runs}
-use Rattle.trivial_code.specs.declared.trivial.Given.{Given}
-use Rattle.trivial_code.specs.declared.trivial.Given.TheVariants.{Came, Integer}
-use Rattle.trivial_code.specs.Image.{IsReady, AreReady, IsTrivialFunction, IsTrivialImage, TrivialFunctionsAreFaithful, TrivialFunctionsHaveMeanings, TrivialRunsArePrinted}
-use Rattle.trivial_code.specs.Trivial.{FitsWord, given_of}
-use Rattle.faithful_image.specs.Line.{MeansLine, meant_line, printed_line}
-use Rattle.faithful_image.proofs.LineLaw.{faithful_runs_print_their_meaning}
-use Rattle.faithful_image.specs.Agreement.{Agrees, IsSameOutcome, store_of}
+use Rattle.trivial_code.proofs.Acts.{origin_behind}
+use Rattle.trivial_code.proofs.Located.{ArePlain}
+use Rattle.trivial_code.proofs.Stands.{constant_stands}
+use Rattle.trivial_code.proofs.Paths.{Enters, spends, fills, passes, entered, entered_stands, entered_keeps, full_keeps, returned, returns, word_returned}
+use Rattle.trivial_code.proofs.Rows.{lt_or_le, Gives, MeansSo, begun, value_of, means_spent, means_full, means_value, Means, means}
+use Rattle.trivial_code.proofs.Steps.{HasArea, Runs, word_given}
+use Rattle.trivial_code.specs.declared.emitting.Given.{Given}
+use Rattle.trivial_code.specs.declared.emitting.Given.TheVariants.{Came, Register, Area, Word}
+use Rattle.trivial_code.specs.declared.trivial.Origin.{Origin}
+use Rattle.trivial_code.specs.declared.trivial.Origin.TheVariants.{Argument, Moved}
+use Rattle.trivial_code.specs.Image.{IsInReach, IsReady, AreReady, IsTrivialFunction, IsTrivialImage, TrivialFunctionsAreFaithful, TrivialFunctionsHaveMeanings, literals_before}
+use Rattle.trivial_code.specs.Returned.{given_by}
+use Rattle.trivial_code.specs.Trivial.{held}
+use Rattle.trivial_code.specs.Words.{FitsWord}
+use Rattle.faithful_image.specs.Agreement.{Agrees, IsSameOutcome}
+use Rattle.mode_switch.specs.Store.{store_of}
 use Rattle.faithful_image.proofs.Watching.{IsFault, step_off, ends_alike, apart_always}
 use Rattle.faithful_image.specs.Meaning.{HasMeaning, IsOutcome, IsSound, meaning_of}
 use Rattle.faithful_image.specs.Faithful.{AgreesWith, IsApart, IsOver}
 use Rattle.faithful_image.specs.Watched.{watched_step}
 use Rattle.laid_terms.proofs.Standing.{laid_terms_stand, length-laid_in_turn}
-use Rattle.laid_terms.specs.Laid.{Begins as IsBegun, most_laid}
+use Rattle.laid_terms.specs.Laid.{Begins as IsBegun}
 use Rattle.mode_switch.proofs.Places.{full_step-plain}
 use Rattle.mode_switch.specs.Call.{Call, IsCallOf, IsInRange, loaded, run_of, start}
-use Rattle.mode_switch.specs.declared.addresses.TheConstants.{GATE_START, STACK_END, STOP_LINK}
+use Rattle.mode_switch.specs.declared.addresses.TheConstants.{GATE_START, STACK_END, STOP_LINK, X_WORDS}
 use Rattle.mode_switch.specs.declared.outcome.End.TheVariants as e
 use Rattle.mode_switch.specs.declared.outcome.Outcome.{Outcome}
 use Rattle.mode_switch.specs.declared.outcome.Outcome.TheVariants.{Returned, Ended}
-use Rattle.mode_switch.specs.declared.text.TheConstants.{NOT_BUILT_STATUS}
 use Rattle.mode_switch.specs.Destination.{entry_address, item_entry}
 use Rattle.mode_switch.specs.Run.{full_step, bound, first_state as machine_state}
 use Rattle.mode_switch.specs.State.{Loaded, MixedState, Finish}
 use Rattle.mode_switch.specs.Step.{mixed_step}
 use Rattle.image_format.specs.declared.limits.TheConstants.{CODE_START, ITEM_START}
 use Rattle.image_format.specs.declared.parts.Parts.{Parts}
+use Rattle.native_link.specs.Checking.{constants_in}
 use Rattle.native_link.specs.Lookup.{entry_address as native_address}
 use Rattle.small_step.proofs.Following.{Stretch, Ends, Agrees as Followed, ends, ends_in_time}
 use Rattle.small_step.proofs.Runs.{done_stays, done_once, run-one, still_goes_on}
 use Rattle.small_step.specs.Stage.{Stage, Still, Done, IfDone, IfStill, run}
-use Rattle.tagged_words.proofs.WordLaws.{class_of-small_word}
+use Rattle.tagged_words.proofs.SeenLaws.{a_tree_stays}
 use Rattle.tagged_words.specs.declared.addresses.TheConstants.{HEAP_START}
-use Rattle.tagged_words.specs.Laid.{laid_in_turn, words_in_turn, with_atoms_of}
-use Rattle.tagged_words.specs.Look.{look_in, address_end}
+use Rattle.tagged_words.specs.Laid.{laid_in_turn, words_in_turn}
 use Rattle.tagged_words.specs.Seen.{IsTreeOf}
-use Rattle.tagged_words.specs.Store.{Store}
-use Rattle.term_tree.specs.IsTerm.{IsTerm}
 use Rattle.term_tree.specs.Size.{words_of_all}
 use Rattle.term_tree.specs.Tree as t
+use Rattle.trivial_code.proofs.Kept.{area_at, area_large, area_of, length-words_in_turn, literals_keep, names_keep}
+use Rattle.word_terms.specs.Literals.{literal_store}
 
 if_done : {S O : Type 0} (P : O → Type 0) (st : Stage S O) → ((o : O) → st ≡ Done o → P o) → IfDone st P
 if_done P (Still s) holds = tt
@@ -83,12 +87,6 @@ rows_within ms limits fid p is =
     let all : most_rows ms limits ≡ limits.reductions * (items_of ms + 2) + 2 * (items_of ms + 2) = omega arith in
     omega arith
 
--- what is returned is there
-pub value_of : (given : Given) (args : List t.Tree) → (given ≡ Came → 1 ≤ length args) → (v : t.Tree) × (held given (came_with args) ≡ Some v)
-value_of (Integer n) args some = (t.Int n, refl)
-value_of Came (a ∷ args) some = (a, refl)
-value_of Came [] some = absurd (let one = some refl in omega arith)
-
 -- the registers and the heap that a call's value is read by
 record Keeps (s final : MixedState) : Type 0 where
   memory : final.memory ≡ s.memory
@@ -101,7 +99,7 @@ record EndsSo (g : Loaded) (chosen : List ℕ) (n : ℕ) (s : MixedState) (outco
   keeps : Keeps s final
 
 -- the run of one call
-module _ (g : Loaded) (chosen : List ℕ) (first fid : ℕ) (p : Placed) (given : Given) (args : List t.Tree) (value : t.Tree) (laid words : List ℕ) (is : function_at g.modules fid ≡ Some p) (gives : given_of p.function ≡ Some given) (holds : held given (came_with args) ≡ Some value) (runs : Runs g first given (cost_of p.function)) (entry : entry_address g.modules g.parts.natives fid ≡ CODE_START + 4 * first) (range : IsInRange g.limits) where
+module _ (g : Loaded) (chosen : List ℕ) (first fid : ℕ) (p : Placed) (origin : Origin) (given : Given) (args : List t.Tree) (value : t.Tree) (laid words : List ℕ) (is : function_at g.modules fid ≡ Some p) (gives : Gives p.function args origin value) (fits_word : FitsWord given) (runs : Runs g first given (cost_of p.function)) (entry : entry_address g.modules g.parts.natives fid ≡ CODE_START + 4 * first) (range : IsInRange g.limits) where
   abbrev start_at : MixedState
   start_at = machine_state g.limits (entry_address g.modules g.parts.natives fid) laid words
 
@@ -143,28 +141,40 @@ module _ (g : Loaded) (chosen : List ℕ) (first fid : ℕ) (p : Placed) (given 
   behind_entry = entered g chosen first given (cost_of p.function) runs start_at g.limits.reductions (STACK_END - 4 * g.limits.stack) STACK_END enters
 
   abbrev word_said : ℕ
-  word_said = word_given given (slice_index words 0)
+  word_said = word_given given start_at.regs.r start_at.memory.xs.words
 
-  returned_value : FitsWord given → 0 < g.limits.reductions → cost_of p.function ≤ g.limits.stack → EndsSo g chosen 12 start_at (Returned word_said)
-  returned_value fits_word some fits =
+  -- the x area, and what the entry leaves of the arguments
+  has_area : HasArea behind_entry behind_entry.regs.r
+  has_area =
+      let same = entered_keeps g chosen first given (cost_of p.function) runs start_at g.limits.reductions (STACK_END - 4 * g.limits.stack) STACK_END enters in
+      record { leads = same 7 (λ e. cc) (λ e. cc) (λ e. cc); start = refl; large = area_large words }
+
+  word_same : (said : Given) → FitsWord said → word_given said behind_entry.regs.r behind_entry.memory.xs.words ≡ word_given said start_at.regs.r start_at.memory.xs.words
+  word_same Came fits = entered_keeps g chosen first given (cost_of p.function) runs start_at g.limits.reductions (STACK_END - 4 * g.limits.stack) STACK_END enters 8 (λ e. cc) (λ e. cc) (λ e. cc)
+  word_same (Register n) fits = entered_keeps g chosen first given (cost_of p.function) runs start_at g.limits.reductions (STACK_END - 4 * g.limits.stack) STACK_END enters (8 + n) (λ e. omega arith) (λ e. omega arith) (λ e. omega arith)
+  word_same (Area n) fits = refl
+  word_same (Word w) fits = refl
+
+  returned_value : 0 < g.limits.reductions → cost_of p.function ≤ g.limits.stack → EndsSo g chosen 12 start_at (Returned word_said)
+  returned_value some fits =
       let most = range.stack in
       let stands = entered_stands g chosen first given (cost_of p.function) runs start_at g.limits.reductions (STACK_END - 4 * g.limits.stack) STACK_END enters in
       let same = entered_keeps g chosen first given (cost_of p.function) runs start_at g.limits.reductions (STACK_END - 4 * g.limits.stack) STACK_END enters in
       let last : MixedState = returned g chosen first given (cost_of p.function) runs behind_entry GATE_START in
       let top : slice_index last.regs.r 2 ≡ slice_index start_at.regs.r 2 =
-      full_keeps given behind_entry.regs.r 2 (λ e. cc) ∙ same 2 (λ e. cc) (λ e. cc) (λ e. cc) in
+      full_keeps given behind_entry.regs.r behind_entry.memory.xs.words 2 (λ e. cc) ∙ same 2 (λ e. cc) (λ e. cc) (λ e. cc) in
       ends_behind 11 last (Returned word_said) (record { memory = refl; top = top })
       (still_goes_on (watched_step g chosen) 8 3 start_at behind_entry
       (passes g chosen first given (cost_of p.function) runs start_at g.limits.reductions (STACK_END - 4 * g.limits.stack) STACK_END enters some (omega arith))
-      ∙ returns g chosen first given (cost_of p.function) runs behind_entry STOP_LINK GATE_START stands fits_word (same 15 (λ e. cc) (λ e. cc) (λ e. cc)) refl refl)
+      ∙ returns g chosen first given (cost_of p.function) runs behind_entry STOP_LINK GATE_START stands fits_word has_area (same 15 (λ e. cc) (λ e. cc) (λ e. cc)) refl refl)
       (at_gate last (omega arith)
       ∙ ap (λ w. Done (record { outcome = Returned w; state = last }))
       (word_returned g chosen first given (cost_of p.function) runs behind_entry GATE_START stands
-      ∙ ap (word_given given) (same 8 (λ e. cc) (λ e. cc) (λ e. cc))))
+      ∙ word_same given fits_word))
 
   -- both at the start, with steps enough
   record Begins (budget : ℕ) (s : b.BeamState) (m : MixedState) : Type 0 where
-    source : s ≡ begun g.modules g.limits fid p given args value is gives holds
+    source : s ≡ begun g.modules g.limits fid p origin args value is gives
     target : m ≡ start_at
     enough : 12 ≤ budget
 
@@ -175,7 +185,7 @@ module _ (g : Loaded) (chosen : List ℕ) (first fid : ℕ) (p : Placed) (given 
   Stretches budget s m = Stretch (beam_step g.modules g.limits) (watched_step g chosen) Begins (Agrees g) Good (λ s s' e good. tt) budget s m
 
   -- both end, as they should
-  both_end : (budget steps : ℕ) (s : b.BeamState) (m : MixedState) (meant : b.Outcome) (said : Outcome) → Begins budget s m → (c : (rows : ℕ) × MeansSo g.modules g.limits rows (begun g.modules g.limits fid p given args value is gives holds) meant) → (says : EndsSo g chosen steps start_at said)
+  both_end : (budget steps : ℕ) (s : b.BeamState) (m : MixedState) (meant : b.Outcome) (said : Outcome) → Begins budget s m → (c : (rows : ℕ) × MeansSo g.modules g.limits rows (begun g.modules g.limits fid p origin args value is gives) meant) → (says : EndsSo g chosen steps start_at said)
       → IsSameOutcome (store_of g says.final) g.names said meant → steps ≤ 12 → Stretches budget s m
   both_end budget steps s m meant said begins c says same low =
       ends c.0 steps (record { outcome = meant; state = c.1.0 }) (record { outcome = said; state = says.final })
@@ -190,30 +200,30 @@ module _ (g : Loaded) (chosen : List ℕ) (first fid : ℕ) (p : Placed) (given 
         elim (lt_or_le 0 g.limits.reductions) [
           | inr none ↦
               both_end budget 6 s m (b.Ended b.OutOfReductions) (Ended e.OutOfReductions) begins
-              (1, means_spent g.modules g.limits fid p given args value is gives holds (omega arith)) (out_of_reductions (omega arith)) tt (omega arith)
+              (1, means_spent g.modules g.limits fid p origin args value is gives (omega arith)) (out_of_reductions (omega arith)) tt (omega arith)
           | inl some ↦
               elim (lt_or_le g.limits.stack (cost_of p.function)) [
                 | inl full ↦
                     both_end budget 11 s m (b.Ended b.StackFull) (Ended e.StackFull) begins
-                    (1, means_full g.modules g.limits fid p given args value is gives holds some full) (stack_full some full) tt (omega arith)
+                    (1, means_full g.modules g.limits fid p origin args value is gives some full) (stack_full some full) tt (omega arith)
                 | inr fits ↦
-                    let comes = means_value g.modules g.limits fid p given args value is gives holds some fits in
-                    let says = returned_value (given_fits p.function given gives) some fits in
+                    let comes = means_value g.modules g.limits fid p origin args value is gives some fits in
+                    let says = returned_value some fits in
                     both_end budget 12 s m (b.Returned value) (Returned word_said) begins (comes.rows, comes.means) says (stands says.final says.keeps) (omega arith)
               ]
         ]
 
-    ended : Ends (beam_step g.modules g.limits) (watched_step g chosen) Begins (Agrees g) Good (λ s s' e good. tt) (bound g) (begun g.modules g.limits fid p given args value is gives holds) start_at
+    ended : Ends (beam_step g.modules g.limits) (watched_step g chosen) Begins (Agrees g) Good (λ s s' e good. tt) (bound g) (begun g.modules g.limits fid p origin args value is gives) start_at
     ended =
-        ends_in_time (beam_step g.modules g.limits) (watched_step g chosen) Begins (Agrees g) Good (λ s s' e good. tt) stretch (bound g) (begun g.modules g.limits fid p given args value is gives holds) start_at tt
+        ends_in_time (beam_step g.modules g.limits) (watched_step g chosen) Begins (Agrees g) Good (λ s s' e good. tt) stretch (bound g) (begun g.modules g.limits fid p origin args value is gives) start_at tt
         (record { source = refl; target = refl; enough = omega arith })
 
-    meaning_is : meaning g.modules g.limits fid args ≡ Done (means g.modules g.limits fid p given args value is gives holds).finish
-    meaning_is = done_stays (beam_step g.modules g.limits) (1 + length p.function.items) (most_rows g.modules g.limits) (begun g.modules g.limits fid p given args value is gives holds) (means g.modules g.limits fid p given args value is gives holds).finish (means g.modules g.limits fid p given args value is gives holds).within (rows_within g.modules g.limits fid p is)
+    meaning_is : meaning g.modules g.limits fid args ≡ Done (means g.modules g.limits fid p origin args value is gives).finish
+    meaning_is = done_stays (beam_step g.modules g.limits) (1 + length p.function.items) (most_rows g.modules g.limits) (begun g.modules g.limits fid p origin args value is gives) (means g.modules g.limits fid p origin args value is gives).finish (means g.modules g.limits fid p origin args value is gives).within (rows_within g.modules g.limits fid p is)
 
-    agrees_then : (said : Finish) → Followed (beam_step g.modules g.limits) (watched_step g chosen) Begins (Agrees g) Good (λ s s' e good. tt) (begun g.modules g.limits fid p given args value is gives holds) said → Agrees g (means g.modules g.limits fid p given args value is gives holds).finish said
+    agrees_then : (said : Finish) → Followed (beam_step g.modules g.limits) (watched_step g chosen) Begins (Agrees g) Good (λ s s' e good. tt) (begun g.modules g.limits fid p origin args value is gives) said → Agrees g (means g.modules g.limits fid p origin args value is gives).finish said
     agrees_then said a =
-        subst (λ meant. Agrees g meant said) (done_once (beam_step g.modules g.limits) a.rows (1 + length p.function.items) (begun g.modules g.limits fid p given args value is gives holds) a.outcome (means g.modules g.limits fid p given args value is gives holds).finish a.done (means g.modules g.limits fid p given args value is gives holds).within) a.agree
+        subst (λ meant. Agrees g meant said) (done_once (beam_step g.modules g.limits) a.rows (1 + length p.function.items) (begun g.modules g.limits fid p origin args value is gives) a.outcome (means g.modules g.limits fid p origin args value is gives).finish a.done (means g.modules g.limits fid p origin args value is gives).within) a.agree
 
     good : IsFault ended.outcome.outcome → ⊥
     good fault = fault_disagrees g ended.outcome.state ended.outcome.outcome _ (agrees_then ended.outcome ended.agrees) fault
@@ -222,9 +232,9 @@ module _ (g : Loaded) (chosen : List ℕ) (first fid : ℕ) (p : Placed) (given 
     one_ends : run (full_step g) (bound g) start_at ≡ Done ended.outcome
     one_ends = ends_alike g chosen (bound g) start_at ended.outcome ended.within good
 
-    one_agrees : (n : ℕ) (said : Finish) → run (full_step g) n start_at ≡ Done said → Agrees g (means g.modules g.limits fid p given args value is gives holds).finish said
+    one_agrees : (n : ℕ) (said : Finish) → run (full_step g) n start_at ≡ Done said → Agrees g (means g.modules g.limits fid p origin args value is gives).finish said
     one_agrees n said done =
-        subst (Agrees g (means g.modules g.limits fid p given args value is gives holds).finish) (done_once (full_step g) (bound g) n start_at ended.outcome said one_ends done) (agrees_then ended.outcome ended.agrees)
+        subst (Agrees g (means g.modules g.limits fid p origin args value is gives).finish) (done_once (full_step g) (bound g) n start_at ended.outcome said one_ends done) (agrees_then ended.outcome ended.agrees)
 
     one_apart : (k : ℕ) (s : MixedState) → run (full_step g) k start_at ≡ Still s → IsApart g.modules chosen s.regs.pc
     one_apart k s still = apart_always g chosen (bound g) start_at ended.outcome ended.within good k s still
@@ -237,17 +247,17 @@ module _ (ms : List Module) (functions : AreReady ms) (call : Call) (fits : IsCa
   means_there : function_at ms call.function ≡ Some means_found.function
   means_there = let same : call.function ≡ means_found.index = omega (arith, means_found.is) in ap (slice_get (all_functions ms)) same ∙ means_found.there
 
-  means_ready : (given : Given) × IsReady means_found.function.function given
+  means_ready : (origin : Origin) × IsReady means_found.function.function origin
   means_ready = functions call.function means_found.function means_there
 
   means_arity : length call.args ≡ means_found.function.function.arity
   means_arity = eqb-true (length call.args) means_found.function.function.arity (arity_passes fits.owner fits.name (length call.args) means_found.function means_found.passes)
 
-  means_term : (v : t.Tree) × (held means_ready.0 (came_with call.args) ≡ Some v)
-  means_term = value_of means_ready.0 call.args (λ came. let some = means_ready.1.came came in let same = means_arity in omega arith)
+  means_gives : (v : t.Tree) × Gives means_found.function.function call.args means_ready.0 v
+  means_gives = value_of means_found.function.function call.args means_ready.0 means_ready.1.is means_arity means_ready.1.reads
 
-  means_here : Means ms call.limits call.function means_found.function means_ready.0 call.args means_term.0 means_there means_ready.1.is means_term.1
-  means_here = means ms call.limits call.function means_found.function means_ready.0 call.args means_term.0 means_there means_ready.1.is means_term.1
+  means_here : Means ms call.limits call.function means_found.function means_ready.0 call.args means_gives.0 means_there means_gives.1
+  means_here = means ms call.limits call.function means_found.function means_ready.0 call.args means_gives.0 means_there means_gives.1
 
   abbrev means_rows : ℕ
   means_rows = 1 + length means_found.function.function.items
@@ -268,20 +278,6 @@ module _ (ms : List Module) (functions : AreReady ms) (call : Call) (fits : IsCa
   pub has_meaning : HasMeaning ms call
   has_meaning = record { outcome = subst IsOutcome (sym done_in_time) means_here.sound; never_stuck = never }
 
-  -- without arguments an integer is returned
-  is_printed : call.args ≡ [] → (meant_line (b.Returned means_term.0)).1 ≢ NOT_BUILT_STATUS
-  is_printed none = by means_ready.0 means_ready.1 means_term.0 means_term.1
-    where
-      by : (given : Given) → IsReady means_found.function.function given → (v : t.Tree) → held given (came_with call.args) ≡ Some v → (meant_line (b.Returned v)).1 ≢ NOT_BUILT_STATUS
-      by Came ready v e = absurd (let some = ready.came refl in let same = means_arity in let length = ap (λ (xs : List t.Tree). length xs) none in omega arith)
-      by (Integer n) ready v e = let same : t.Int n ≡ v = cc in subst (λ (x : t.Tree). (meant_line (b.Returned x)).1 ≢ NOT_BUILT_STATUS) same (λ e. cc)
-
-  has_line : call.args ≡ [] → IfDone (meaning_of ms call) (λ f. (meant_line f.outcome).1 ≢ NOT_BUILT_STATUS)
-  has_line none = subst (λ st. IfDone st (λ f. (meant_line f.outcome).1 ≢ NOT_BUILT_STATUS)) (sym done_in_time) (means_here.has_line (is_printed none))
-
-  pub line_there : call.args ≡ [] → (line : List ℕ × ℕ) → MeansLine ms call line → line.1 ≢ NOT_BUILT_STATUS
-  line_there none line m = subst (λ l. l.1 ≢ NOT_BUILT_STATUS) m.is (subst (λ st. IfDone st (λ f. (meant_line f.outcome).1 ≢ NOT_BUILT_STATUS)) m.means (has_line none))
-
 pub trivial_functions_have_meanings : TrivialFunctionsHaveMeanings
 trivial_functions_have_meanings ms functions call fits = has_meaning ms functions call fits
 
@@ -293,14 +289,23 @@ words_below (v ∷ vs) = let rest = words_below vs in omega arith
 heap_has : (laid rest : List ℕ) (n : ℕ) → n ≡ length laid → IsBegun laid (take n (laid ++ rest))
 heap_has laid rest n e j w is = ap (λ (ws : List ℕ). slice_get ws j) (take_at laid rest n (sym e)) ∙ is
 
-stands_by : (given : Given) (names : List (List ℕ)) (args : List t.Tree) (s : Store) (v : t.Tree) → FitsWord given → held given (came_with args) ≡ Some v → AllByRecursion IsTerm args → words_of_all (t.trees_of args) ≤ most_laid
-    → IsBegun (laid_in_turn (with_atoms_of names args) HEAP_START args) s.heap → IsTreeOf s (with_atoms_of names args) (word_given given (slice_index (words_in_turn (with_atoms_of names args) HEAP_START args) 0)) v
-stands_by (Integer n) names args s v fits e terms few begins = let same : t.Int n ≡ v = cc in subst (λ x. IsTreeOf s (with_atoms_of names args) (word_given (Integer n) 0) x) same (ap (look_in s (with_atoms_of names args) address_end) (class_of-small_word n fits))
-stands_by Came names [] s v fits e terms few begins = absurd cc
-stands_by Came names (a ∷ args) s v fits e terms few begins =
-    let same : a ≡ v = cc in
-    subst (λ x. IsTreeOf s (with_atoms_of names (a ∷ args)) (slice_index (words_in_turn (with_atoms_of names (a ∷ args)) HEAP_START (a ∷ args)) 0) x) same
-    (laid_terms_stand names (a ∷ args) s terms few begins 0 (slice_index (words_in_turn (with_atoms_of names (a ∷ args)) HEAP_START (a ∷ args)) 0) a refl refl)
+-- an argument is where it came
+argument_word : (words rs : List ℕ) (n : ℕ) → n < length words → slice_index rs 8 ≡ slice_index words 0 → slice_index rs 9 ≡ slice_index words 1 → slice_index rs 10 ≡ slice_index words 2 → slice_index rs 11 ≡ slice_index words 3
+    → slice_index rs 12 ≡ slice_index words 4 → (zeroth low : Bool) → nat_eq n 0 ≡ zeroth → nat_lt n 5 ≡ low
+    → word_given (if zeroth then Came else if low then Register n else Area n) rs (area_of words) ≡ slice_index words n
+argument_word words rs n few e0 e1 e2 e3 e4 true low is under = let same : n ≡ 0 = grind (arith, nat_tests) in e0 ∙ ap (slice_index words) (sym same)
+argument_word words rs n few e0 e1 e2 e3 e4 false false is under = area_at words n (grind (arith, nat_tests)) few
+argument_word words rs zero few e0 e1 e2 e3 e4 false true is under = e0
+argument_word words rs (suc zero) few e0 e1 e2 e3 e4 false true is under = e1
+argument_word words rs (suc (suc zero)) few e0 e1 e2 e3 e4 false true is under = e2
+argument_word words rs (suc (suc (suc zero))) few e0 e1 e2 e3 e4 false true is under = e3
+argument_word words rs (suc (suc (suc (suc zero)))) few e0 e1 e2 e3 e4 false true is under = e4
+argument_word words rs (suc (suc (suc (suc (suc n))))) few e0 e1 e2 e3 e4 false true is under = absurd (grind (arith, nat_tests))
+
+argument_fits : (n : ℕ) → n < X_WORDS → (zeroth low : Bool) → nat_lt n 5 ≡ low → FitsWord (if zeroth then Came else if low then Register n else Area n)
+argument_fits n reach true low under = tt
+argument_fits n reach false true under = grind (arith, nat_tests)
+argument_fits n reach false false under = reach
 
 -- a call of an exported function of an image of trivial functions
 module _ (ms : List Module) (parts : Parts) (image : IsTrivialImage ms parts) (call : Call) (fits : IsCallOf ms call) where
@@ -319,21 +324,25 @@ module _ (ms : List Module) (parts : Parts) (image : IsTrivialImage ms parts) (c
   there : function_at ms call.function ≡ Some found.function
   there = let same : call.function ≡ found.index = omega (arith, found.is) in ap (slice_get (all_functions ms)) same ∙ found.there
 
-  trivial : IsTrivialFunction parts call.function found.function.function
+  trivial : IsTrivialFunction parts (literals_before ms call.function) call.function found.function.function
   trivial = image.functions call.function found.function there
 
-  term : (v : t.Tree) × (held trivial.given (came_with call.args) ≡ Some v)
-  term =
-      value_of trivial.given call.args
-      (λ came.
-      let some = trivial.ready.came came in
-      let same = eqb-true (length call.args) found.function.function.arity (arity_passes fits.owner fits.name (length call.args) found.function found.passes) in
-      omega arith)
+  arity : length call.args ≡ found.function.function.arity
+  arity = eqb-true (length call.args) found.function.function.arity (arity_passes fits.owner fits.name (length call.args) found.function found.passes)
+
+  term : (v : t.Tree) × Gives found.function.function call.args trivial.origin v
+  term = value_of found.function.function call.args trivial.origin trivial.ready.is arity trivial.ready.reads
+
+  abbrev given : Given
+  given = given_by (constants_in parts) (literals_before ms call.function) found.function.function.items trivial.origin
+
+  are_plain_all : ArePlain (all_functions ms)
+  are_plain_all k p e = let f = image.functions k p e in (origin_behind p.function f.origin f.ready.is).0
 
   last_word : trivial.placed.native.first + 14 < length parts.code
   last_word = slice_get_within parts.code (trivial.placed.native.first + 14) _ (trivial.placed.stands 14 _ refl)
 
-  runs : Runs g trivial.placed.native.first trivial.given (cost_of found.function.function)
+  runs : Runs g trivial.placed.native.first given (cost_of found.function.function)
   runs =
       record {
         quiet = fits.no_junk;
@@ -346,37 +355,67 @@ module _ (ms : List Module) (parts : Parts) (image : IsTrivialImage ms parts) (c
   entry : entry_address ms parts.natives call.function ≡ CODE_START + 4 * trivial.placed.native.first
   entry = ap (λ o. elim (option_map native_address o) [ None ↦ item_entry ms call.function (function_at ms call.function) | Some at ↦ at ]) trivial.placed.found
 
-  stands_in : (final : MixedState) → Keeps (start g call) final → IsTreeOf (store_of g final) g.names (word_given trivial.given (slice_index words 0)) term.0
-  stands_in final keeps =
+  -- what is returned has a word, which stands for the term
+  fits_by : (origin : Origin) (v : t.Tree) → IsInReach origin → held found.function.function.items call.args origin ≡ Some v → FitsWord (given_by (constants_in parts) (literals_before ms call.function) found.function.function.items origin)
+  fits_by (Argument n) v reach e = argument_fits n reach (nat_eq n 0) (nat_lt n 5) refl
+  fits_by (Moved at) v reach e = (constant_stands (constants_in parts) ms image.constants image.roots are_plain_all call.function at found.function v there e).low
+
+  given_fits : FitsWord given
+  given_fits = fits_by trivial.origin term.0 trivial.reach term.1.holds
+
+  begins_in : (final : MixedState) → Keeps (start g call) final → IsBegun laid (store_of g final).heap
+  begins_in final keeps =
       let most = fits.heap in
       let limit = fits.limits.heap in
       let few = words_below call.args in
       let long = length-laid_in_turn g.names call.args HEAP_START in
       let top = keeps.top in
       let used : (slice_index final.regs.r 2 - HEAP_START + 3) / 4 ≡ length laid = omega arith in
-      stands_by trivial.given parts.atoms call.args (store_of g final) term.0 (given_fits found.function.function trivial.given trivial.ready.is) term.1 fits.terms (omega arith)
-      (λ j w is. ap (λ (ws : List ℕ). slice_get (take ((slice_index final.regs.r 2 - HEAP_START + 3) / 4) ws) j) (ap (λ m. m.heap.words) keeps.memory)
-      ∙ heap_has laid (replicate (call.limits.heap - length laid) 0) ((slice_index final.regs.r 2 - HEAP_START + 3) / 4) used j w is)
+      λ j w is. ap (λ (ws : List ℕ). slice_get (take ((slice_index final.regs.r 2 - HEAP_START + 3) / 4) ws) j) (ap (λ m. m.heap.words) keeps.memory)
+      ∙ heap_has laid (replicate (call.limits.heap - length laid) 0) ((slice_index final.regs.r 2 - HEAP_START + 3) / 4) used j w is
 
-  meant : meaning_of ms call ≡ Done (means ms call.limits call.function found.function trivial.given call.args term.0 there trivial.ready.is term.1).finish
+  argument_stands : (final : MixedState) → Keeps (start g call) final → (n : ℕ) (v : t.Tree) → slice_get call.args n ≡ Some v → IsTreeOf (store_of g final) g.names (slice_index words n) v
+  argument_stands final keeps n v e =
+      let most = fits.heap in
+      let limit = fits.limits.heap in
+      let few = words_below call.args in
+      let low : n < length call.args = slice_get_within call.args n v e in
+      let long = length-words_in_turn g.names HEAP_START call.args in
+      laid_terms_stand parts.atoms call.args (store_of g final) fits.terms (omega arith) (begins_in final keeps) n (slice_index words n) v e (slice_get-get_or words n 0 (omega arith))
+
+  stands_by : (final : MixedState) → Keeps (start g call) final → (origin : Origin) (v : t.Tree) → held found.function.function.items call.args origin ≡ Some v
+      → IsTreeOf (store_of g final) g.names (word_given (given_by (constants_in parts) (literals_before ms call.function) found.function.function.items origin) (start g call).regs.r (start g call).memory.xs.words) v
+  stands_by final keeps (Argument n) v e =
+      let low : n < length call.args = slice_get_within call.args n v e in
+      let long = length-words_in_turn g.names HEAP_START call.args in
+      subst (λ w. IsTreeOf (store_of g final) g.names w v) (sym (argument_word words (start g call).regs.r n (omega arith) refl refl refl refl refl (nat_eq n 0) (nat_lt n 5) refl refl))
+      (argument_stands final keeps n v e)
+  stands_by final keeps (Moved at) v e =
+      let c = constant_stands (constants_in parts) ms image.constants image.roots are_plain_all call.function at found.function v there e in
+      a_tree_stays (literal_store parts.literals) (store_of g final) parts.atoms g.names (literals_keep parts.literals (store_of g final).heap) (names_keep parts.atoms call.args) _ v c.stands
+
+  stands_in : (final : MixedState) → Keeps (start g call) final → IsTreeOf (store_of g final) g.names (word_given given (start g call).regs.r (start g call).memory.xs.words) term.0
+  stands_in final keeps = stands_by final keeps trivial.origin term.0 term.1.holds
+
+  meant : meaning_of ms call ≡ Done (means ms call.limits call.function found.function trivial.origin call.args term.0 there term.1).finish
   meant =
-      meaning_is g [] trivial.placed.native.first call.function found.function trivial.given call.args term.0 laid words there trivial.ready.is term.1 runs entry fits.limits stands_in
+      meaning_is g [] trivial.placed.native.first call.function found.function trivial.origin given call.args term.0 laid words there term.1 given_fits runs entry fits.limits stands_in
 
   agrees_at : (n : ℕ) (said : Finish) → run_of g call n ≡ Done said → AgreesWith g (meaning_of ms call) said
   agrees_at n said done =
       subst (λ st. AgreesWith g st said) (sym meant)
-      (one_agrees g [] trivial.placed.native.first call.function found.function trivial.given call.args term.0 laid words there trivial.ready.is term.1 runs entry fits.limits stands_in n said done)
+      (one_agrees g [] trivial.placed.native.first call.function found.function trivial.origin given call.args term.0 laid words there term.1 given_fits runs entry fits.limits stands_in n said done)
 
   pub agrees_in : (n : ℕ) → IfDone (run_of g call n) (AgreesWith g (meaning_of ms call))
   agrees_in n = if_done (AgreesWith g (meaning_of ms call)) (run_of g call n) (agrees_at n)
 
   pub ends_in : IsOver (run_of g call (bound g))
-  ends_in = subst IsOver (sym (one_ends g [] trivial.placed.native.first call.function found.function trivial.given call.args term.0 laid words there trivial.ready.is term.1 runs entry fits.limits stands_in)) tt
+  ends_in = subst IsOver (sym (one_ends g [] trivial.placed.native.first call.function found.function trivial.origin given call.args term.0 laid words there term.1 given_fits runs entry fits.limits stands_in)) tt
 
   pub apart_in : (chosen : List ℕ) (n : ℕ) → IfStill (run_of g call n) (λ s. IsApart ms chosen s.regs.pc)
   apart_in chosen n =
       if_still (λ s. IsApart ms chosen s.regs.pc) (run_of g call n)
-      (λ s still. one_apart g chosen trivial.placed.native.first call.function found.function trivial.given call.args term.0 laid words there trivial.ready.is term.1 runs entry fits.limits stands_in n s still)
+      (λ s still. one_apart g chosen trivial.placed.native.first call.function found.function trivial.origin given call.args term.0 laid words there term.1 given_fits runs entry fits.limits stands_in n s still)
 
 pub trivial_functions_are_faithful : TrivialFunctionsAreFaithful
 trivial_functions_are_faithful ms parts image =
@@ -387,7 +426,3 @@ trivial_functions_are_faithful ms parts image =
       ends = λ call fits. ends_in ms parts image call fits;
       native = λ call fits n. apart_in ms parts image call fits (map (λ n. n.fid) parts.natives) n;
     }
-
-pub trivial_runs_are_printed : TrivialRunsArePrinted
-trivial_runs_are_printed ms chosen parts faithful functions call fits none =
-    line_there ms functions call fits none (printed_line ms parts call) (faithful_runs_print_their_meaning ms chosen parts faithful call fits)

@@ -2,18 +2,16 @@
 use Rattle.std.proofs.Common.{◌≡◌, ℕ, suc, ◌+◌, ◌-◌, ◌*◌, ◌^◌, ◌<◌, ◌≤◌, true, false, List, length, nat_eq, slice_index, slice_set, refl, ap, ◌∙◌, arith}
 use Rattle.std.proofs.lemmas.Bool.Decides.{nat_tests}
 use Rattle.std.proofs.lemmas.List.{get_or-set_same, get_or-set_other, length-set}
-use Rattle.trivial_code.proofs.Steps.{half, full, Flags, flags_of, compared, standing, at, Runs, gates, step0, step1_on, step1_off, step2, step3, step4, step5, step6_on, step6_off, nop_step, step8, step9, step10, step11, step13}
-use Rattle.trivial_code.specs.declared.trivial.Given.{Given}
-use Rattle.trivial_code.specs.declared.trivial.Given.TheVariants.{Came, Integer}
-use Rattle.trivial_code.specs.Trivial.{FitsWord}
-use Rattle.trivial_code.specs.Words.{upper}
+use Rattle.trivial_code.proofs.Steps.{half, full, word_given, HasArea, Flags, flags_of, compared, standing, at, Runs, gates, step0, step1_on, step1_off, step2, step3, step4, step5, step6_on, step6_off, nop_step, step8, step9, step10, step11, step13}
+use Rattle.trivial_code.specs.declared.emitting.Given.{Given}
+use Rattle.trivial_code.specs.declared.emitting.Given.TheVariants.{Came, Register, Area, Word}
+use Rattle.trivial_code.specs.Words.{FitsWord, upper}
 use Rattle.faithful_image.specs.Watched.{watched_step}
 use Rattle.mode_switch.specs.declared.addresses.TheConstants.{GATE_START}
 use Rattle.mode_switch.specs.State.{Loaded, MixedState}
 use Rattle.small_step.proofs.Runs.{steps_on}
 use Rattle.small_step.specs.Stage.{Still, run}
 use Rattle.sparc_code.specs.Step.{in_word, is_aligned, sum_of, difference_of}
-use Rattle.tagged_words.specs.Word.{small_word}
 
 -- PC stands at a word of the code, and control goes on in order
 pub record Stands (first j : ℕ) (s : MixedState) : Type 0 where
@@ -48,21 +46,21 @@ placed rs left low = slice_set (paid rs left) 23 low
 -- registers that the return leaves as they are
 pub half_keeps : (said : Given) (rs : List ℕ) (j : ℕ) → (j ≡ 8 → ⊥) → slice_index (half said rs) j ≡ slice_index rs j
 half_keeps Came rs j other = refl
-half_keeps (Integer value) rs j other = get_or-set_other rs 8 j (upper (small_word value) * 2 ^ 10) 0 other
+half_keeps (Register number) rs j other = refl
+half_keeps (Area number) rs j other = refl
+half_keeps (Word w) rs j other = get_or-set_other rs 8 j (upper w * 2 ^ 10) 0 other
 
-pub full_keeps : (said : Given) (rs : List ℕ) (j : ℕ) → (j ≡ 8 → ⊥) → slice_index (full said rs) j ≡ slice_index rs j
-full_keeps Came rs j other = refl
-full_keeps (Integer value) rs j other = get_or-set_other (half (Integer value) rs) 8 j (small_word value) 0 other ∙ half_keeps (Integer value) rs j other
+pub full_keeps : (said : Given) (rs xs : List ℕ) (j : ℕ) → (j ≡ 8 → ⊥) → slice_index (full said rs xs) j ≡ slice_index rs j
+full_keeps Came rs xs j other = refl
+full_keeps (Register number) rs xs j other = get_or-set_other rs 8 j (slice_index rs (8 + number)) 0 other
+full_keeps (Area number) rs xs j other = get_or-set_other rs 8 j (slice_index xs number) 0 other
+full_keeps (Word w) rs xs j other = get_or-set_other (half (Word w) rs) 8 j w 0 other ∙ half_keeps (Word w) rs j other
 
--- the word that is returned, where this one came
-abbrev pub word_given : Given → ℕ → ℕ
-word_given Came word = word
-word_given (Integer value) word = small_word value
-
-full_has : (said : Given) (rs : List ℕ) → length rs ≡ 32 → slice_index (full said rs) 8 ≡ word_given said (slice_index rs 8)
-full_has Came rs long = refl
-full_has (Integer value) rs long =
-    get_or-set_same (half (Integer value) rs) 8 (small_word value) 0 (omega (arith, length-set rs 8 (upper (small_word value) * 2 ^ 10), long))
+full_has : (said : Given) (rs xs : List ℕ) → length rs ≡ 32 → slice_index (full said rs xs) 8 ≡ word_given said rs xs
+full_has Came rs xs long = refl
+full_has (Register number) rs xs long = get_or-set_same rs 8 (slice_index rs (8 + number)) 0 (omega arith)
+full_has (Area number) rs xs long = get_or-set_same rs 8 (slice_index xs number) 0 (omega arith)
+full_has (Word w) rs xs long = get_or-set_same (half (Word w) rs) 8 w 0 (omega (arith, length-set rs 8 (upper w * 2 ^ 10), long))
 
 module _ (g : Loaded) (chosen : List ℕ) (first : ℕ) (given : Given) (cost : ℕ) (runs : Runs g first given cost) (s : MixedState) where
   next_of : (j k : ℕ) → k ≡ j + 1 → k ≤ 16 → in_word (at first j + 4) ≡ at first k
@@ -176,16 +174,16 @@ module _ (g : Loaded) (chosen : List ℕ) (first : ℕ) (given : Given) (cost : 
 
   -- the return, from any state at its first word: on to behind the link, with the word that is returned in %o0
   abbrev pub returned : ℕ → MixedState
-  returned back = standing s (full given s.regs.r) (flags_of s.regs) back (in_word (back + 4))
+  returned back = standing s (full given s.regs.r s.memory.xs.words) (flags_of s.regs) back (in_word (back + 4))
 
-  pub returns : (link back : ℕ) → Stands first 8 s → FitsWord given → slice_index s.regs.r 15 ≡ link → in_word (link + 8) ≡ back → is_aligned back ≡ true → run (watched_step g chosen) 3 s ≡ Still (returned back)
-  returns link back st fits is to whole =
+  pub returns : (link back : ℕ) → Stands first 8 s → FitsWord given → HasArea s s.regs.r → slice_index s.regs.r 15 ≡ link → in_word (link + 8) ≡ back → is_aligned back ≡ true → run (watched_step g chosen) 3 s ≡ Still (returned back)
+  returns link back st fits area is to whole =
       let at_link : slice_index (half given s.regs.r) 15 ≡ link = half_keeps given s.regs.r 15 (λ e. cc) ∙ is in
       let target : sum_of (slice_index (half given s.regs.r) 15) 8 ≡ back = ap (λ x. sum_of x 8) at_link ∙ to in
       ap (run (watched_step g chosen) 3) (stands_so first 8 s st)
       ∙ go 2 _ (standing s (half given s.regs.r) (flags_of s.regs) (at first 9) (at first 10)) _ (step8 g chosen first given cost runs s s.regs.r (flags_of s.regs) (at first 9) (at first 10) fits (next_of 9 10 refl (omega arith)))
       (go 1 _ (standing s (half given s.regs.r) (flags_of s.regs) (at first 10) back) _ (step9 g chosen first given cost runs s (half given s.regs.r) (flags_of s.regs) (at first 10) back target whole)
-      (go 0 _ (returned back) _ (step10 g chosen first given cost runs s s.regs.r (flags_of s.regs) back (in_word (back + 4)) st.whole refl) refl))
+      (go 0 _ (returned back) _ (step10 g chosen first given cost runs s s.regs.r (flags_of s.regs) back (in_word (back + 4)) fits st.whole area refl) refl))
 
-  pub word_returned : (back : ℕ) → Stands first 8 s → slice_index (returned back).regs.r 8 ≡ word_given given (slice_index s.regs.r 8)
-  word_returned back st = full_has given s.regs.r st.whole
+  pub word_returned : (back : ℕ) → Stands first 8 s → slice_index (returned back).regs.r 8 ≡ word_given given s.regs.r s.memory.xs.words
+  word_returned back st = full_has given s.regs.r s.memory.xs.words st.whole

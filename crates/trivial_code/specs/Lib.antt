@@ -1,4 +1,5 @@
 pub mod Trivial
 pub mod Words
+pub mod Returned
 pub mod Image
 pub mod Compiled

@@ -1,15 +1,14 @@
 -- The native words of a trivial function (docs/MACHINE.md, Entry).
-use Rattle.std.specs.Prelude.{ℕ, pos, ◌*◌, ◌/◌, ◌%◌, ◌^◌, List, [], ◌∷◌, ◌++◌, map, false}
-use Rattle.mode_switch.specs.declared.addresses.TheConstants.{GATE_START}
+use Rattle.std.specs.Prelude.{ℕ, pos, ◌+◌, ◌*◌, ◌/◌, ◌%◌, ◌^◌, ◌<◌, List, [], ◌∷◌, ◌++◌, map, false}
+use Rattle.mode_switch.specs.declared.addresses.TheConstants.{GATE_START, X_WORDS}
 use Rattle.sparc_code.specs.declared.instruction.Instr.{Instr}
-use Rattle.sparc_code.specs.declared.instruction.Instr.TheVariants.{Sethi, Branch, Arith}
+use Rattle.sparc_code.specs.declared.instruction.Instr.TheVariants.{Sethi, Branch, Arith, Load}
 use Rattle.sparc_code.specs.declared.instruction.Source.TheVariants.{Reg, Imm}
 use Rattle.sparc_code.specs.declared.instruction.ArithOp.TheVariants.{Or, Sub, SubCc, JumpAndLink}
 use Rattle.sparc_code.specs.declared.instruction.Cond.TheVariants.{Equal, CarrySet}
 use Rattle.sparc_code.specs.Code.{encoded}
-use Rattle.tagged_words.specs.Word.{small_word}
-use Rattle.trivial_code.specs.declared.trivial.Given.{Given}
-use Rattle.trivial_code.specs.declared.trivial.Given.TheVariants.{Came, Integer}
+use Rattle.trivial_code.specs.declared.emitting.Given.{Given}
+use Rattle.trivial_code.specs.declared.emitting.Given.TheVariants.{Came, Register, Area, Word}
 
 -- the upper 22 bits and the lower 10 bits of a word
 abbrev pub upper : ℕ → ℕ
@@ -40,14 +39,25 @@ entry_instrs cost =
     ∷ nop
     ∷ []
 
--- the two parts of the word that is returned, in %o0; what came there stays
+-- what is returned can be: an argument register, a place of the x area, a word
+abbrev pub FitsWord : Given → Type 0
+FitsWord Came = Unit {0}
+FitsWord (Register number) = number < 5
+FitsWord (Area number) = number < X_WORDS
+FitsWord (Word w) = w < 2 ^ 32
+
+-- what is returned comes into %o0, a word in its two parts; what came there stays. %g7 has the x area
 abbrev pub high_part : Given → Instr
 high_part Came = nop
-high_part (Integer value) = Sethi 8 (upper (small_word value))
+high_part (Register number) = nop
+high_part (Area number) = nop
+high_part (Word w) = Sethi 8 (upper w)
 
 abbrev pub low_part : Given → Instr
 low_part Came = nop
-low_part (Integer value) = Arith Or 8 8 (Imm (pos (lower (small_word value))))
+low_part (Register number) = Arith Or 8 0 (Reg (8 + number))
+low_part (Area number) = Load 8 7 (Imm (pos (4 * number)))
+low_part (Word w) = Arith Or 8 8 (Imm (pos (lower w)))
 
 abbrev pub return_instrs : Given → List Instr
 return_instrs given = high_part given ∷ Arith JumpAndLink 0 15 (Imm (pos 8)) ∷ low_part given ∷ []

@@ -3,14 +3,21 @@
 ghost use Rattle.image_format.specs.declared.limits.TheConstants.{MOST_FRAME};
 ghost use Rattle.sparc_code.specs.Code.{encoded, IsInWidth};
 ghost use Rattle.std.specs.Prelude.{◌≡◌, ◌≤◌, ◌<◌, ◌^◌, ◌++◌, ◌∷◌, [], map, false, OnOk, IfOk};
-ghost use Rattle.trivial_code.specs.Trivial.{FitsWord};
-ghost use Rattle.trivial_code.specs.Words.{entry_instrs, return_instrs, end_instrs, trivial_words};
+ghost use Rattle.trivial_code.specs.Words.{FitsWord, entry_instrs, return_instrs, end_instrs, trivial_words};
 
-use crate::trivial::Given;
 use mode_switch::GATE_START;
 use sparc_code::{ArithOp, Cond, Instr, Source, encode};
 use std::alloc::{AllocError, Global};
-use tagged_words::small;
+
+/// What the native code of a trivial function returns: what came in %o0, in another of the first
+/// five argument registers, or in the x area; or a word.
+#[derive(Clone, Copy)]
+pub enum Given {
+    Came,
+    Register(u8),
+    Area(u8),
+    Word(u32),
+}
 
 /// How many code words a trivial function has.
 pub const FUNCTION_WORDS: u32 = 15;
@@ -79,12 +86,31 @@ fn put_same(code: &mut Vec<u32>) -> Result<(), AllocError>
     put_sethi(code, 0, 0)
 }
 
-/// The return of an integer of 28 bits.
-fn put_integer(code: &mut Vec<u32>, value: i32) -> Result<(), AllocError>
-    requires { FitsWord (Given.Integer value) }
-    ensures { OnOk result (code.new.items ≡ code.old.items ++ map encoded (return_instrs (Given.Integer value))) }
+/// The return of what came in another of the first five argument registers.
+fn put_register(code: &mut Vec<u32>, number: u8) -> Result<(), AllocError>
+    requires { FitsWord (Given.Register number) }
+    ensures { OnOk result (code.new.items ≡ code.old.items ++ map encoded (return_instrs (Given.Register number))) }
 {
-    let word = small(value);
+    put_sethi(code, 0, 0)?;
+    put_arith(code, ArithOp::JumpAndLink, 0, 15, Source::Imm(8))?;
+    put_arith(code, ArithOp::Or, 8, 0, Source::Reg(8 + number))
+}
+
+/// The return of what came in the x area.
+fn put_area(code: &mut Vec<u32>, number: u8) -> Result<(), AllocError>
+    requires { FitsWord (Given.Area number) }
+    ensures { OnOk result (code.new.items ≡ code.old.items ++ map encoded (return_instrs (Given.Area number))) }
+{
+    let src = Source::Imm(4 * number as i16);
+    put_sethi(code, 0, 0)?;
+    put_arith(code, ArithOp::JumpAndLink, 0, 15, Source::Imm(8))?;
+    put(code, Instr::Load { rd: 8, rs1: 7, src })
+}
+
+/// The return of a word.
+fn put_word(code: &mut Vec<u32>, word: u32) -> Result<(), AllocError>
+    ensures { OnOk result (code.new.items ≡ code.old.items ++ map encoded (return_instrs (Given.Word word))) }
+{
     let upper = word / 1024;
     let lower = (word % 1024) as i16;
     put_sethi(code, 8, upper)?;
@@ -98,7 +124,9 @@ fn put_return(code: &mut Vec<u32>, given: Given) -> Result<(), AllocError>
 {
     match given {
         Given::Came => put_same(code),
-        Given::Integer(value) => put_integer(code, value),
+        Given::Register(number) => put_register(code, number),
+        Given::Area(number) => put_area(code, number),
+        Given::Word(word) => put_word(code, word),
     }
 }
 

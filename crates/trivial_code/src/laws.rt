@@ -1,15 +1,15 @@
 // The laws of trivial functions.
 
 ghost use Rattle.trivial_code.specs.Compiled.{CompiledIsAnImage};
-ghost use Rattle.trivial_code.specs.Image.{TrivialFunctionsAreFaithful, TrivialFunctionsAreReady, TrivialFunctionsHaveMeanings, TrivialRunsArePrinted};
+ghost use Rattle.trivial_code.specs.Image.{TrivialFunctionsAreFaithful, TrivialFunctionsAreReady, TrivialFunctionsHaveMeanings};
 
 /// A law: an image in which each function is trivial, and in native form, does what its texts say.
 pub fn trivial_functions_are_faithful()
     ensures { TrivialFunctionsAreFaithful }
 {}
 
-/// A law: the functions of modules that are checked and all trivial each have an argument where
-/// they return what came.
+/// A law: the functions of modules that are checked and all trivial read nothing but their
+/// arguments, and x0 behind a move.
 pub fn trivial_functions_are_ready()
     ensures { TrivialFunctionsAreReady }
 {}
@@ -18,12 +18,6 @@ pub fn trivial_functions_are_ready()
 /// way to it is stuck.
 pub fn trivial_functions_have_meanings()
     ensures { TrivialFunctionsHaveMeanings }
-{}
-
-/// A law: where each function is trivial, what a run on a faithful image prints of a call without
-/// arguments is a line of today.
-pub fn trivial_runs_are_printed()
-    ensures { TrivialRunsArePrinted }
 {}
 
 /// A law: what is compiled of modules meets the rules of an image, has what they ask for, and does

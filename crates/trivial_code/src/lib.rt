@@ -1,5 +1,5 @@
-//! Trivial functions, which return an integer or what came in x0: their native code, the laws of
-//! it, and the parts of the images of modules of such functions.
+//! Trivial functions, which return an argument or a constant: their native code, the laws of it,
+//! and the parts of the images of modules of such functions.
 #![tactic(auto)]
 
 mod building;
@@ -8,8 +8,9 @@ mod laws;
 mod trivial;
 
 pub use building::parts;
+pub use emitting::Given;
 pub use laws::{
     compiled_is_an_image, trivial_functions_are_faithful, trivial_functions_are_ready,
-    trivial_functions_have_meanings, trivial_runs_are_printed,
+    trivial_functions_have_meanings,
 };
-pub use trivial::{Given, are_trivial};
+pub use trivial::{Origin, are_trivial};

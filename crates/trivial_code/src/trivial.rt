@@ -2,37 +2,58 @@
 
 ghost use Rattle.beam_code.specs.Canonical.{is_canonical_operand};
 ghost use Rattle.std.specs.Prelude.{◌≡◌, IsTrue, drop};
-ghost use Rattle.term_tree.specs.Small.{is_small};
-ghost use Rattle.trivial_code.specs.Trivial.{action_of, are_plain, given_from, given_of, is_trivial, move_from, move_to, are_trivial};
+ghost use Rattle.trivial_code.specs.Trivial.{action_of, are_plain, moved, origin_from, origin_of, is_trivial, move_from, moves, source_of, are_trivial};
 ghost use Rattle.std.specs.List.{list_all};
 
 use beam_check::Checked;
 use beam_code::{Function, Instr, Item, Operand, Place};
 
-/// What an item of a trivial function does: nothing, it moves an integer to x0, it returns, or it
+/// What is moved to x0: what an x register holds, or a constant.
+#[derive(Clone, Copy)]
+pub enum Source {
+    Register(u16),
+    Constant,
+}
+
+/// What an item of a trivial function does: nothing, it moves something to x0, it returns, or it
 /// raises.
 #[derive(Clone, Copy)]
 pub enum Action {
     Passes,
-    Moves(i32),
+    Moves(Source),
     Returns,
     Raises,
 }
 
-/// What a trivial function returns: what came in x0, its first argument, or an integer of 28 bits.
+/// What a trivial function returns: what came in an x register, or the constant that the item with
+/// this number moves.
 #[derive(Clone, Copy)]
-pub enum Given {
-    Came,
-    Integer(i32),
+pub enum Origin {
+    Argument(u16),
+    Moved(usize),
 }
 
-fn integer_to(to: Place, value: i32) -> Option<Action>
-    requires { IsTrue (is_small value) }
-    ensures { result ≡ move_to to value }
+/// What an operand is that a trivial function may move.
+fn source_of(from: &Operand) -> Option<Source>
+    requires { IsTrue (is_canonical_operand from.now) }
+    ensures { result ≡ source_of from.now }
 {
-    match to {
-        Place::X(0) => Some(Action::Moves(value)),
-        _ => None,
+    match from {
+        Operand::X(n) => Some(Source::Register(*n)),
+        Operand::Y(_) => None,
+        Operand::Int(_) => Some(Source::Constant),
+        Operand::Atom(_) => Some(Source::Constant),
+        Operand::Nil => Some(Source::Constant),
+        Operand::Literal(_) => Some(Source::Constant),
+    }
+}
+
+fn moves(source: Option<Source>) -> Option<Action>
+    ensures { result ≡ moves source }
+{
+    match source {
+        Some(source) => Some(Action::Moves(source)),
+        None => None,
     }
 }
 
@@ -40,8 +61,8 @@ fn move_to(from: &Operand, to: Place) -> Option<Action>
     requires { IsTrue (is_canonical_operand from.now) }
     ensures { result ≡ move_from from.now to }
 {
-    match from {
-        Operand::Int(value) => integer_to(to, *value),
+    match to {
+        Place::X(0) => moves(source_of(from)),
         _ => None,
     }
 }
@@ -73,15 +94,26 @@ fn are_plain(items: &[Item]) -> bool
     true
 }
 
-/// What items return from a number on, where they come to a `return`.
-fn given_from(items: &[Item], from: usize) -> Option<Given>
-    ensures { result ≡ given_from Given.Came (drop from items.now) }
+/// What x0 has behind a move to it: what comes from x0 itself is there already.
+fn moved(at: usize, so: Origin, source: Source) -> Origin
+    ensures { result ≡ moved at so source }
 {
-    let mut so = Given::Came;
+    match source {
+        Source::Register(0) => so,
+        Source::Register(n) => Origin::Argument(n),
+        Source::Constant => Origin::Moved(at),
+    }
+}
+
+/// What items return from a number on, where they come to a `return`.
+fn origin_from(items: &[Item], from: usize) -> Option<Origin>
+    ensures { result ≡ origin_from from (Origin.Argument 0) (drop from items.now) }
+{
+    let mut so = Origin::Argument(0);
     for i in from..items.len() {
         match done_by(&items[i]) {
             Some(Action::Passes) => {}
-            Some(Action::Moves(value)) => so = Given::Integer(value),
+            Some(Action::Moves(source)) => so = moved(i, so, source),
             Some(Action::Returns) => return Some(so),
             _ => return None,
         }
@@ -90,12 +122,12 @@ fn given_from(items: &[Item], from: usize) -> Option<Given>
 }
 
 /// What a function returns, where it is trivial.
-pub fn returned(f: &Function) -> Option<Given>
-    ensures { result ≡ given_of f.now }
+pub fn returned(f: &Function) -> Option<Origin>
+    ensures { result ≡ origin_of f.now }
 {
     let items = f.items.as_slice();
     if are_plain(items) {
-        given_from(items, f.entry as usize + 1)
+        origin_from(items, f.entry as usize + 1)
     } else {
         None
     }

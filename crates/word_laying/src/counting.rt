@@ -25,9 +25,10 @@ pub fn words_of(term: &Term) -> u64
     }
 }
 
-/// The words of a row of terms, with `each` words more for each of them.
+/// The words of a row of terms, with `each` words more for each of them;
+/// 18,446,744,073,709,551,615 where there are more.
 #[cycle(words_of)]
-fn words_of_row(items: &[Term], each: u64) -> u64
+pub fn words_of_row(items: &[Term], each: u64) -> u64
     ensures { result ≡ saturated (row_words each (map tree_of items.now)) }
 {
     let mut count: u64 = 0;

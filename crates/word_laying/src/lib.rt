@@ -6,6 +6,6 @@ mod laws;
 mod laying;
 mod words;
 
-pub use counting::words_of;
+pub use counting::{words_of, words_of_row};
 pub use laws::{as_many_words_are_laid, written_words_are_read};
 pub use laying::{Laid, NoRoom, lay};

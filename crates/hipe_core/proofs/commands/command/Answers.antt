@@ -1,5 +1,5 @@
 use Rattle.std.proofs.Common.{map, string_bytes}
-use Rattle.hipe_core.proofs.AnswerLaw.{answer_is, sayable}
+use Rattle.hipe_core.proofs.AnswerLaw.{answer_is}
 use Rattle.hipe_core.proofs.commands.command.Goals as goal
 use Rattle.hipe_core.specs.Answer.{case}
 use Rattle.hipe_core.specs.Command.{effects}

@@ -41,3 +41,10 @@ returns-clause-hold c =
     let is : c.in_ok-made.made ≡ constants_of ms =
     c.in_ok-made.ensures ∙ ap (λ n. with_literals n (literals_of (shown c.as_slice-2.result.now))) table ∙ ap (λ a. with_literals (table_of ms) (literals_of a)) second in
     subst (λ x. ConstantsHold x ms) (sym is) (they_hold ms (record { words = c.requires.words; names = c.requires.names }) terms)
+
+pub returns-clause-terms : goal.returns-clause-terms
+returns-clause-terms c =
+    let ms = c.args.modules.now in
+    let first : shown c.as_slice.result.now ≡ mentions_of ms = ap shown c.as_slice.ensures.value ∙ c.in_ok-all.ensures in
+    let table : c.in_ok-atoms.atoms ≡ table_of ms = c.in_ok-atoms.ensures ∙ ap (with_mentions first_atoms) first in
+    all_terms ms c.in_ok-atoms.atoms table (ap (list_all is_name) (sym c.names.ensures) ∙ c.are_names.ensures) c.are_canonical.ensures c.requires.words

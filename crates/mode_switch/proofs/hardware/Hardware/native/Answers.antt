@@ -1,6 +1,8 @@
 -- The processor leaves in the machine's memory what the step says, and the memory is the one that was lent.
-use Rattle.std.proofs.Common.{ℕ, refl}
+use Rattle.std.proofs.Common.{ℕ, refl, sym}
 use Rattle.mode_switch.proofs.Native.{left_by, stays_by}
+use Rattle.mode_switch.proofs.Tops.{heap_stays}
+use Rattle.mode_switch.specs.Store.{extent}
 use Rattle.mode_switch.specs.Memory.{load_of, stores_of, stored}
 use Rattle.mode_switch.specs.State.{Memory, MixedState}
 use Rattle.mode_switch.specs.declared.memory.Reach.{Reach}
@@ -23,3 +25,7 @@ returns-clause-stage c =
     rw (c.end_by.ensures, ← c.self.view_is)
     (left_by part store (λ m at w. refl) s c.step-done.new.regs _ c.step-done.new.memory c.step-done.result
     (word_effect (load_of c.args.literals.now s.memory) (stores_of s.memory) s.regs (decoded c.args.word)) refl c.step-done.ensures.effect)
+
+pub returns-clause-heap : goal.returns-clause-heap
+returns-clause-heap c =
+    rw (← c.self.view_is) (sym (stays_by (λ (m : Reach). extent m.memory.now.heap) store (λ m at w. heap_stays m.memory.now at w) _ _ _ c.step-done.new.memory _ _ c.step-done.ensures.effect))

@@ -7,8 +7,11 @@ pub returns-in-Done : goal.returns-in-Done
 returns-in-Done c =
     let lt : c.loop-self.self.steps < c.bound-bound.result = rw (← c.self-in-loop-self.view_is) c.loop-self-test.true in
     let fits : c.bound-bound.result < 2 ^ 64 = omega arith in
-    run_ends c.loop-self.self c.step.new.self c.bound-bound.result c.in-Done.outcome c.loop-self.invariant.going c.loop-self.invariant.bounded lt fits c.in-Done.ensures.machine c.in-Done.ensures.answer
-    ∙ c.loop-self.invariant.same
+    record {
+      run = run_ends c.loop-self.self c.step.new.self c.bound-bound.result c.in-Done.outcome c.loop-self.invariant.going c.loop-self.invariant.bounded lt fits c.in-Done.ensures.machine c.in-Done.ensures.answer
+          ∙ c.loop-self.invariant.same;
+      atoms = c.in-Done.ensures.atoms;
+    }
 
 pub loop-self-smaller : goal.loop-self-smaller
 loop-self-smaller c =
