@@ -1,5 +1,5 @@
 -- What a running function holds of a path's point, and how that stays as registers change.
-use Rattle.std.proofs.Common.{◌≡◌, ℕ, zero, suc, ◌<◌, inl, inr, Bool, true, false, Option, Some, None, List, [], ◌∷◌, length, slice_get, slice_set, slice_index_or, nat_lt, refl, ap, subst, sym, ◌∙◌, arith, if◌then◌else◌}
+use Rattle.std.proofs.Common.{◌≡◌, ℕ, zero, suc, ◌+◌, ◌<◌, ◌≤◌, inl, inr, Bool, true, false, Option, Some, None, List, [], ◌∷◌, length, slice_get, slice_set, slice_index_or, nat_lt, refl, ap, subst, sym, ◌∙◌, arith, if◌then◌else◌}
 use Rattle.std.specs.List.{list_all}
 use Rattle.std.proofs.lemmas.Bool.{cases_eq, ltb-true, lt-ltb}
 use Rattle.small_step.specs.Stage.{Stage}
@@ -19,12 +19,15 @@ use Rattle.path_rules.specs.Ranges.{place_in_range}
 use Rattle.path_rules.specs.Registers.{first_xs, place_passes, xs_in, ys_in}
 use Rattle.path_rules.specs.Rules.{is_defined, is_in_stack}
 use Rattle.path_rules.specs.Tags.{is_untagged}
-use Rattle.run_laws.proofs.Lists.{get_set_here, get_set_other, index_set, length_set, registers_set}
+use Rattle.beam_rows.proofs.Lists.{get_set_here, get_set_other, length_set}
+use Rattle.run_laws.proofs.Lists.{index_set, registers_set}
 use Rattle.run_laws.proofs.Tags.{plain_set, untagged_plain}
 use Rattle.run_laws.specs.Shown.{ShowsRegisters, ShowsStack, slots_of}
 
-pub record Has (r item : ℕ) (stack : Option ℕ) (tags : List Tag) (xs ys : List Bool) (l : Local) : Type 0 where
+-- the words used, and those that are covered, are not past the most
+pub record Has (r most covered item : ℕ) (stack : Option ℕ) (tags : List Tag) (xs ys : List Bool) (l : Local) : Type 0 where
   pub left : l.left ≡ r
+  pub room : l.used + covered ≤ most
   pub at : l.item ≡ item
   pub registers : ShowsRegisters xs l.xs
   pub wide : length l.xs ≡ x_registers
@@ -85,13 +88,13 @@ all_fit stack tags (place.Y n ∷ places) a b c =
     let y = both_hold (is_untagged tags n) (list_all (place_passes (is_untagged tags)) places) b in
     ((x.0, y.0), all_fit stack tags places x.1 y.1 c)
 
-pub record IsPut (r item : ℕ) (stack : Option ℕ) (tags : List Tag) (xs ys : List Bool) (l : Local) (to : Place) (v : Tree) : Type 0 where
+pub record IsPut (r most covered item : ℕ) (stack : Option ℕ) (tags : List Tag) (xs ys : List Bool) (l : Local) (to : Place) (v : Tree) : Type 0 where
   pub local : Local
   pub is : (more : Local → Stage Local Event) → put l to v more ≡ more local
-  pub has : Has r item stack tags (defined (xs_in (to ∷ [])) xs) (defined (ys_in (to ∷ [])) ys) local
+  pub has : Has r most covered item stack tags (defined (xs_in (to ∷ [])) xs) (defined (ys_in (to ∷ [])) ys) local
 
-pub put_has : (r item : ℕ) (stack : Option ℕ) (tags : List Tag) (xs ys : List Bool) (l : Local) (to : Place) (v : Tree) → Has r item stack tags xs ys l → Fits stack tags to → IsPut r item stack tags xs ys l to v
-put_has r item stack tags xs ys l (place.X n) v h fits =
+pub put_has : (r most c item : ℕ) (stack : Option ℕ) (tags : List Tag) (xs ys : List Bool) (l : Local) (to : Place) (v : Tree) → Has r most c item stack tags xs ys l → Fits stack tags to → IsPut r most c item stack tags xs ys l to v
+put_has r most c item stack tags xs ys l (place.X n) v h fits =
     let wide : length l.xs ≡ x_registers = h.wide in
     let low : n < length l.xs = omega arith in
     record {
@@ -99,19 +102,21 @@ put_has r item stack tags xs ys l (place.X n) v h fits =
       is = λ more. ap (λ b. if b then more (record l { xs = slice_set l.xs n (Some v) }) else stuck l) (lt-ltb n (length l.xs) low);
       has = record {
         left = h.left;
+        room = h.room;
         at = h.at;
         registers = registers_set xs l.xs n v low h.registers;
         wide = length_set l.xs n (Some v) ∙ h.wide;
         shows = h.shows;
       };
     }
-put_has r item stack tags xs ys l (place.Y n) v h fits =
+put_has r most c item stack tags xs ys l (place.Y n) v h fits =
     let there = y_there stack tags ys l.ys n h.shows fits.0 in
     record {
       local = record l { ys = Some (slice_set there.slots n (Holds v)) };
       is = λ more. y_set_is l l.ys n (Holds v) there more;
       has = record {
         left = h.left;
+        room = h.room;
         at = h.at;
         registers = h.registers;
         wide = h.wide;
@@ -128,7 +133,7 @@ y_read_in : (o : Option (List Slot)) (n : ℕ) (v : Tree) → slice_get (slots_o
 y_read_in None n v e = absurd cc
 y_read_in (Some ss) n v e = ap slot_term e
 
-module _ (r item : ℕ) (stack : Option ℕ) (tags : List Tag) (xs ys : List Bool) (l : Local) (h : Has r item stack tags xs ys l) where
+module _ (r most c item : ℕ) (stack : Option ℕ) (tags : List Tag) (xs ys : List Bool) (l : Local) (h : Has r most c item stack tags xs ys l) where
   pub reads_one : (o : Operand) → is_defined xs ys o ≡ true → (v : Tree) × (read_of l o ≡ Some v)
   reads_one (X n) e = let u = h.registers n e in (u.0, x_read l n u.0 u.1)
   reads_one (Y n) e = let u = h.shows.terms n e in (u.0, y_read_in l.ys n u.0 u.1)

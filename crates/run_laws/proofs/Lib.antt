@@ -2,7 +2,6 @@ pub mod Lists
 pub mod Tags
 pub mod Held
 pub mod Slots
-pub mod Callees
 pub mod Landing
 pub mod Rows
 pub mod Marks
@@ -11,3 +10,4 @@ pub mod Running
 pub mod Same
 pub mod Falling
 pub mod Brief
+pub mod Kept

@@ -20,6 +20,7 @@ use Rattle.path_rules.specs.Points.{Point, at_handler, at_item, at_labels, behin
 use Rattle.path_rules.specs.Rules.{breaks_at, breaks_of, leads_to_end}
 use Rattle.path_rules.specs.Registers.{places_of}
 use Rattle.path_rules.specs.Tags.{is_touched, lowest_tag, moved_down, tagged}
+use Rattle.beam_rows.proofs.Lists.{some_is}
 use Rattle.run_laws.proofs.Landing.{not_false}
 
 module _ (ms : List Module) (f : Placed) where
@@ -125,11 +126,7 @@ module _ (ms : List Module) (f : Placed) where
   lowest_labelled [] t all e = absurd cc
   lowest_labelled (u ∷ tags) t all e =
       let same : u ≡ t = cc in
-      some (label_in f.function t.label) (subst (λ x. has_label x ≡ true) same (both_hold (has_label u) (list_all has_label tags) all).0)
-    where
-      some : (o : Option ℕ) → is_some o ≡ true → (item : ℕ) × (o ≡ Some item)
-      some None e = absurd cc
-      some (Some item) e = (item, refl)
+      some_is (label_in f.function t.label) (subst (λ x. has_label x ≡ true) same (both_hold (has_label u) (list_all has_label tags) all).0)
 
   -- the label of the lowest mark of a path is there
   pub handler_there : KeepsRules ms f → (n : ℕ) (p : Point) (t : Tag) → Free (graph ms f.function) n p → lowest_tag p.tags ≡ Some t → (item : ℕ) × (label_in f.function t.label ≡ Some item)

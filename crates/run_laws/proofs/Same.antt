@@ -37,11 +37,11 @@ module _ (ms : List Module) (checked : AreChecked ms) where
       record {
         stack = λ f named n p other here.
             let same = one_function g f (function_at ms function) is named in
-            (keeps ms checked function f named).stack n m p q other (subst (λ (x : Placed). Free (graph ms x.function) m q) same free) (here ∙ sym at) ∙ shows.size;
+            (keeps ms 0 checked function f named).stack n m p q other (subst (λ (x : Placed). Free (graph ms x.function) m q) same free) (here ∙ sym at) ∙ shows.size;
         handler = λ f named n p other here.
             let same = one_function g f (function_at ms function) is named in
             ap (λ ts. handler_of (lowest_tag ts))
-            ((keeps ms checked function f named).tags n m p q other (subst (λ (x : Placed). Free (graph ms x.function) m q) same free) (here ∙ sym at) ∙ shows.tags_are)
+            ((keeps ms 0 checked function f named).tags n m p q other (subst (λ (x : Placed). Free (graph ms x.function) m q) same free) (here ∙ sym at) ∙ shows.tags_are)
             ∙ same_handler ys;
       }
 

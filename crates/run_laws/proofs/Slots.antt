@@ -8,7 +8,8 @@ use Rattle.path_rules.specs.declared.tag.Tag.{Tag}
 use Rattle.path_rules.specs.Points.{none_defined, undefined, y_registers}
 use Rattle.path_rules.specs.Rules.{same_stack}
 use Rattle.path_rules.specs.Tags.{tagged, trimmed, untagged}
-use Rattle.run_laws.proofs.Lists.{get_set_other, index_unset, length_set, none_shown}
+use Rattle.beam_rows.proofs.Lists.{get_set_other, length_set}
+use Rattle.run_laws.proofs.Lists.{index_unset, none_shown}
 use Rattle.run_laws.proofs.Tags.{tagged_is, trimmed_is, untagged_is}
 use Rattle.run_laws.specs.Shown.{ShowsStack, kind_of, tags_from}
 

@@ -26,3 +26,9 @@ abbrev pub RanksFall : Type 0
 RanksFall =
     (ms : List Module) (function : ℕ) (f : Placed) → AreChecked ms → function_at ms function ≡ Some f → (n : ℕ) (p q : Point) → Free (graph ms f.function) n p
     → Contains ((graph ms f.function).moves p) q → rank_of ms f.function q < rank_of ms f.function p
+
+-- and all paths to an item have one rank there
+abbrev pub RanksAreOfItems : Type 0
+RanksAreOfItems =
+    (ms : List Module) (function : ℕ) (f : Placed) → AreChecked ms → function_at ms function ≡ Some f → (m n : ℕ) (p q : Point) → Free (graph ms f.function) m p → Free (graph ms f.function) n q
+    → p.item ≡ q.item → rank_of ms f.function p ≡ rank_of ms f.function q

@@ -1,11 +1,11 @@
 -- The laws of runs of checked modules (docs/BEAM.md, Meaning).
-use Rattle.std.specs.Prelude.{◌≡◌, ◌≢◌, ℕ, List, Some, length}
+use Rattle.std.specs.Prelude.{◌≡◌, ◌≢◌, ℕ, List, Some, length, max}
 use Rattle.small_step.specs.Stage.{Still, Done, run}
 use Rattle.beam_code.specs.declared.call.Limits.{Limits}
 use Rattle.beam_code.specs.declared.module.Module.{Module}
 use Rattle.beam_code.specs.Frame.{beam_step}
 use Rattle.beam_code.specs.Function.{Placed, function_at}
-use Rattle.beam_code.specs.Meaning.{first_state, meaning}
+use Rattle.beam_code.specs.Meaning.{first_state, meaning, words_in}
 use Rattle.beam_code.specs.State.{BeamState, Finish, Ended, Stuck}
 use Rattle.term_tree.specs.Tree.{Tree}
 use Rattle.run_laws.specs.Formed.{AreChecked}
@@ -17,11 +17,15 @@ pub record IsCall (ms : List Module) (function : ℕ) (args : List Tree) : Type 
   pub is : function_at ms function ≡ Some placed
   pub arity : length args ≡ placed.function.arity
 
+-- as many words as the heap has, or as the arguments take where those are more
+abbrev pub most_words : Limits → List Tree → ℕ
+most_words limits args = max limits.heap (words_in args)
+
 -- each state of a run is one that a path shows, and so is each frame that waits in it
 abbrev pub StatesAreShown : Type 0
 StatesAreShown =
     (ms : List Module) (limits : Limits) (function : ℕ) (args : List Tree) → AreChecked ms → IsCall ms function args
-    → (k : ℕ) (s : BeamState) → run (beam_step ms limits) k (first_state ms limits function args) ≡ Still s → StateIsShown ms s
+    → (k : ℕ) (s : BeamState) → run (beam_step ms limits) k (first_state ms limits function args) ≡ Still s → StateIsShown ms (most_words limits args) s
 
 -- no run ends at a row that is stuck
 abbrev pub NoRowIsStuck : Type 0

@@ -1,5 +1,5 @@
 -- What the point of a path says of a running function and of a frame that waits (docs/BEAM.md, Paths and State).
-use Rattle.std.specs.Prelude.{◌≡◌, ℕ, ◌+◌, true, false, Bool, List, [], ◌∷◌, length, Option, Some, None, slice_get, slice_index_or}
+use Rattle.std.specs.Prelude.{◌≡◌, ℕ, ◌+◌, ◌≤◌, true, false, Bool, List, [], ◌∷◌, length, Option, Some, None, slice_get, slice_index_or}
 use Rattle.std.specs.Option.{option_map}
 use Rattle.paths.specs.Paths.{Free}
 use Rattle.beam_code.specs.declared.module.Module.{Module}
@@ -42,20 +42,22 @@ pub record ShowsStack (stack : Option ℕ) (tags : List Tag) (ys : List Bool) (s
 abbrev pub ShowsRegisters : List Bool → List (Option Tree) → Type 0
 ShowsRegisters xs registers = (n : ℕ) → slice_index_or xs n false ≡ true → (v : Tree) × (slice_get registers n ≡ Some (Some v))
 
-pub record Shows (p : Point) (l : Local) : Type 0 where
+-- the words that are used, and those that the last heap test covers, are no more than the heap has
+pub record Shows (heap : ℕ) (p : Point) (l : Local) : Type 0 where
   pub item : p.item ≡ l.item
+  pub room : l.used + p.covered ≤ heap
   pub xs : ShowsRegisters p.xs l.xs
   pub wide : length l.xs ≡ x_registers
   pub stack : ShowsStack p.stack p.tags p.ys l.ys
 
 -- the running function is at the end of a path of so many moves
-pub record IsShown (ms : List Module) (function : ℕ) (l : Local) : Type 0 where
+pub record IsShown (ms : List Module) (heap function : ℕ) (l : Local) : Type 0 where
   pub placed : Placed
   pub is : function_at ms function ≡ Some placed
   pub moves : ℕ
   pub point : Point
   pub free : Free (graph ms placed.function) moves point
-  pub shows : Shows point l
+  pub shows : Shows heap point l
 
 -- a frame waits at the call item where a path ends
 pub record Waits (ms : List Module) (frame : Frame) : Type 0 where
@@ -76,6 +78,6 @@ abbrev pub AllWait : List Module → List Frame → Type 0
 AllWait ms [] = Unit {0}
 AllWait ms (frame ∷ frames) = Waits ms frame × AllWait ms frames
 
-pub record StateIsShown (ms : List Module) (s : BeamState) : Type 0 where
-  pub here : IsShown ms s.function s.here
+pub record StateIsShown (ms : List Module) (heap : ℕ) (s : BeamState) : Type 0 where
+  pub here : IsShown ms heap s.function s.here
   pub frames : AllWait ms s.frames

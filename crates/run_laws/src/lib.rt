@@ -4,16 +4,16 @@
 
 mod example;
 
-ghost use Rattle.run_laws.specs.Activations.{ActivationsAreShort};
-ghost use Rattle.run_laws.specs.Ranks.{RanksFall};
+ghost use Rattle.run_laws.specs.Activations.{ActivationsAreShort, ActivationsFollowPaths};
+ghost use Rattle.run_laws.specs.Ranks.{RanksAreOfItems, RanksFall};
 ghost use Rattle.run_laws.specs.Runs.{NoRowIsStuck, RunsEnd, StatesAreShown};
 ghost use Rattle.run_laws.specs.Static.{HandlersAreStatic};
 
-pub use example::example_means;
+pub use example::{example_is_checked, example_means};
 
 /// A law: each state of a run is one that a path shows: the item, the size of the stack, the marks
-/// of handlers, and the registers that are defined. Each frame that waits stands at a call where
-/// such a path ends.
+/// of handlers, the registers that are defined, and the heap words that the last heap test covers.
+/// Each frame that waits stands at a call where such a path ends.
 pub fn states_are_shown()
     ensures { StatesAreShown }
 {}
@@ -39,8 +39,19 @@ pub fn ranks_fall()
     ensures { RanksFall }
 {}
 
+/// A law: all paths that come to an item have one rank there.
+pub fn ranks_are_of_items()
+    ensures { RanksAreOfItems }
+{}
+
 /// A law: the path that shows where a function is comes to no item twice, and makes fewer moves than
 /// the function has items.
 pub fn activations_are_short()
     ensures { ActivationsAreShort }
+{}
+
+/// A law: successive states of an activation are shown by successive points of one path, from row to row, where a call
+/// comes back with a value, and where a handler of its own takes an exception.
+pub fn activations_follow_paths()
+    ensures { ActivationsFollowPaths }
 {}

@@ -1,6 +1,6 @@
 -- Functions that are called, and built-ins that give a value.
-use Rattle.std.proofs.Common.{inl, inr, ◌≡◌, ℕ, zero, suc, ◌+◌, Bool, true, false, ◌&&◌, ◌||◌, ◌⊎◌, codes, Some, None, List, [], ◌∷◌, nat_eq, slice_get, refl, ap, subst, sym, ◌∙◌, arith, if◌then◌else◌}
-use Rattle.std.specs.List.{AllByRecursion}
+use Rattle.std.proofs.Common.{inl, inr, ◌≡◌, ℕ, zero, suc, ◌+◌, Bool, true, false, not, ◌&&◌, ◌||◌, ◌⊎◌, codes, Some, None, List, [], ◌∷◌, nat_eq, slice_get, refl, ap, subst, sym, ◌∙◌, arith, if◌then◌else◌}
+use Rattle.std.specs.List.{AllByRecursion, list_all}
 use Rattle.std.specs.Str.{bytes_eq}
 use Rattle.std.proofs.lemmas.Bool.Decides.{nat_tests}
 use Rattle.term_tree.proofs.TermLaws.{both_hold}
@@ -8,10 +8,15 @@ use Rattle.term_tree.specs.Tree.{Tree}
 use Rattle.beam_code.specs.declared.module.Module.{Module}
 use Rattle.beam_code.specs.Answer.{Value, Is}
 use Rattle.beam_code.specs.Answer as value
-use Rattle.beam_code.specs.BuiltIns.{BuiltIn, Failure, NoFailure, Badarith, Badarg, First, failed, Gives, answer_of, answered, builtin, built_in_number, built_ins, is_built_in}
+use Rattle.beam_code.specs.BuiltIns.{BuiltIn, Failure, NoFailure, Badarith, Badarg, First, failed, Gives, Making, Nothing, ATuple, AList, answer_of, answered, builtin, built_in_number, built_ins, inline_number, is_built_in, is_inline, words_made}
 use Rattle.beam_code.specs.Function.{Placed, all_functions, exported_number, exports_of, first_that, function_at, is_exported, is_named, is_target, number_of, same_name, target_of}
 use Rattle.beam_code.specs.Uses.{never_returns}
-use Rattle.path_rules.proofs.Owners.{name_is}
+use Rattle.beam_rows.proofs.BuiltInLaws.{built_ins_make_their_words}
+use Rattle.beam_rows.specs.Tables.{is_well_said, makes_nothing, only_raises, same_truth}
+use Rattle.std.specs.Cmp.Lexicographic.{same_text}
+
+name_is : (a b : List ℕ) → same_name a b ≡ true → a ≡ b
+name_is a b t = same_text a b (sym t)
 
 -- the first one that passes is there, and passes
 pub record IsFound {A : Type 0} (test : A → Bool) (at : ℕ) (xs : List A) (n : ℕ) : Type 0 where
@@ -60,6 +65,11 @@ export_called ms m f arity callee e = by (is_exported f arity (exports_of ms m))
 
 -- ---- built-ins that give a value come back
 
+pub all_at : {A : Type 0} (test : A → Bool) (xs : List A) (k : ℕ) (x : A) → list_all test xs ≡ true → slice_get xs k ≡ Some x → test x ≡ true
+all_at test [] k x all e = absurd cc
+all_at test (y ∷ xs) zero x all e = let same : y ≡ x = cc in subst (λ z. test z ≡ true) same (both_hold (test y) (list_all test xs) all).0
+all_at test (y ∷ xs) (suc k) x all e = all_at test xs k x (both_hold (test y) (list_all test xs) all).1 e
+
 abbrev ComesBack : BuiltIn → Type 0
 ComesBack b = (vs : List Tree) (v : Tree) → b.value vs ≡ Is v → never_returns b.owner b.name b.arity ≡ false
 
@@ -98,6 +108,25 @@ comes_back_with m g arity k vs v words number gives =
     let names = both_hold (same_name m b.owner && same_name g b.name) (nat_eq arity b.arity) f.passes in
     let two = both_hold (same_name m b.owner) (same_name g b.name) names.0 in
     ap (λ x. never_returns x g arity) (name_is m b.owner two.0) ∙ ap (λ x. never_returns b.owner x arity) (name_is g b.name two.1) ∙ ap (never_returns b.owner b.name) (same_number arity b.arity names.1) ∙ back
+
+-- ---- an instruction's built-in makes no words
+
+makes_none : (m : Making) (vs : List Tree) → makes_nothing m ≡ true → words_made m vs ≡ 0
+makes_none Nothing vs e = refl
+makes_none (ATuple at) vs e = absurd cc
+makes_none AList vs e = absurd cc
+
+pub inline_makes_none : (name : List ℕ) (arity k : ℕ) (vs : List Tree) (v : Tree) (words : ℕ) → inline_number name arity ≡ Some k → builtin k vs ≡ Gives v words → words ≡ 0
+inline_makes_none name arity k vs v words number gives =
+    let f = found_first (is_inline name arity) 0 built_ins k number in
+    let n = f.number in
+    let place : k ≡ f.place = omega arith in
+    let b = f.found in
+    let at : slice_get built_ins k ≡ Some b = ap (slice_get built_ins) place ∙ f.there in
+    let names = (both_hold (b.inline && same_name name b.name) (nat_eq arity b.arity) f.passes).0 in
+    let here : b.inline ≡ true = (both_hold b.inline (same_name name b.name) names).0 in
+    let said = (both_hold (same_truth (never_returns b.owner b.name b.arity) (only_raises b.failure)) (not b.inline || makes_nothing b.making) (all_at is_well_said built_ins k b refl at)).1 in
+    built_ins_make_their_words k b vs v words at gives ∙ makes_none b.making vs (subst (λ x. not x || makes_nothing b.making ≡ true) here said)
 
 -- the built-ins that only raise are in the table
 either : (a b : Bool) → a || b ≡ true → (a ≡ true) ⊎ (b ≡ true)

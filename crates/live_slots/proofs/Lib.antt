@@ -1,0 +1,5 @@
+pub mod Slots
+pub mod Reading
+pub mod Rows
+pub mod Live
+pub mod Sites

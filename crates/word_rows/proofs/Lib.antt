@@ -1,0 +1,4 @@
+pub mod Standing
+pub mod Functions
+pub mod Starting
+pub mod Given
