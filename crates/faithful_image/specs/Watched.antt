@@ -8,8 +8,7 @@ use Rattle.mode_switch.specs.declared.outcome.End.TheVariants.{MachineFault as F
 use Rattle.mode_switch.specs.declared.outcome.FaultKind.TheVariants.{Fetch}
 use Rattle.mode_switch.specs.Destination.{item_address, first_item, within}
 use Rattle.mode_switch.specs.Run.{full_step}
-use Rattle.mode_switch.specs.State.{Loaded, MixedState, Finish}
-use Rattle.mode_switch.specs.Step.{ended}
+use Rattle.mode_switch.specs.State.{Loaded, MixedState, Finish, ended}
 
 -- how many items a function has, where there is one
 abbrev pub items_at : Option Placed → ℕ

@@ -1,3 +1,4 @@
+ghost use Rattle.beam_code.specs.declared.module.TheConstants.{MOST_TEXT_BYTES};
 ghost use Rattle.hand_images.specs.Parts.{hand_atoms, parts_of};
 ghost use Rattle.hand_images.specs.declared.hand.TheConstants.{TEXT};
 ghost use Rattle.image_format.specs.Spelling.{spelling};
@@ -84,12 +85,23 @@ fn parts(alloc: Global, text: &str, words: &[u32]) -> Result<Parts, AllocError>
     })
 }
 
+/// The bytes of an image of one module with this text, whose first function is native as these words. It has no atoms but
+/// the first fourteen, `one` and `f`.
+pub fn image_of_text(alloc: Global, text: &str, words: &[u32]) -> Result<Vec<u8>, AllocError>
+    requires text { length text.now ≤ MOST_TEXT_BYTES }
+    requires some { 1 ≤ length words.now }
+    requires most { length words.now ≤ MOST_CODE }
+    ensures { IfOk result (λ bytes. bytes.items ≡ spelling (parts_of text.now words.now)) }
+{
+    let parts = parts(alloc, text, words)?;
+    image_bytes(alloc, &parts)
+}
+
 /// The bytes of an image of the module `one` with the function `f` of no arguments, whose native code are these words.
 pub fn image_of(alloc: Global, words: &[u32]) -> Result<Vec<u8>, AllocError>
     requires some { 1 ≤ length words.now }
     requires most { length words.now ≤ MOST_CODE }
     ensures { IfOk result (λ bytes. bytes.items ≡ spelling (parts_of TEXT.now words.now)) }
 {
-    let parts = parts(alloc, TEXT, words)?;
-    image_bytes(alloc, &parts)
+    image_of_text(alloc, TEXT, words)
 }

@@ -3,4 +3,4 @@
 
 mod hand;
 
-pub use hand::{TEXT, image_of};
+pub use hand::{TEXT, image_of, image_of_text};

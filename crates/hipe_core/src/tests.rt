@@ -531,6 +531,63 @@ fn trivial_functions_are_compiled(rt: HostRuntime) -> Result<(), Fail> {
     Ok(())
 }
 
+/// Two modules whose functions return each of six arguments, or a literal.
+const PICKS: [&[u8]; 2] = [
+    b"{module,a}. {exports,[{b,6},{c,6},{d,6},{k,0}]}. {attributes,[]}. {labels,9}.\n{function,b,6,2}. {label,1}. {func_info,{atom,a},{atom,b},6}. {label,2}. {move,{x,1},{x,0}}. return.\n{function,c,6,4}. {label,3}. {func_info,{atom,a},{atom,c},6}. {label,4}. {move,{x,2},{x,0}}. return.\n{function,d,6,6}. {label,5}. {func_info,{atom,a},{atom,d},6}. {label,6}. {move,{x,3},{x,0}}. return.\n{function,k,0,8}. {label,7}. {func_info,{atom,a},{atom,k},0}. {label,8}. {move,{literal,{first}},{x,0}}. return.",
+    b"{module,z}. {exports,[{e,6},{f,6},{k,0},{l,0}]}. {attributes,[]}. {labels,9}.\n{function,e,6,2}. {label,1}. {func_info,{atom,z},{atom,e},6}. {label,2}. {move,{x,4},{x,0}}. return.\n{function,f,6,4}. {label,3}. {func_info,{atom,z},{atom,f},6}. {label,4}. {move,{x,5},{x,0}}. return.\n{function,k,0,6}. {label,5}. {func_info,{atom,z},{atom,k},0}. {label,6}. {move,{literal,[second]},{x,0}}. return.\n{function,l,0,8}. {label,7}. {func_info,{atom,z},{atom,l},0}. {label,8}. {move,{literal,{third,[3]}},{x,0}}. return.",
+];
+
+/// The image of both modules.
+fn picks(alloc: Global) -> Result<Vec<u8>, AllocError> {
+    let mut files = MemFiles::new(alloc, 100)?;
+    files.add("a.S", PICKS[0])?;
+    files.add("z.S", PICKS[1])?;
+    let words = ["compile", "--native=all", "a.S", "z.S"];
+    let made = told_of(alloc, &words, &mut files, NEVER)?;
+    Vec::from_slice(alloc, made.out.bytes())
+}
+
+#[test]
+fn each_argument_and_literal_is_returned(rt: HostRuntime) -> Result<(), Fail> {
+    let alloc = rt.alloc();
+    let image = picks(alloc)?;
+    for (entry, args, line) in [
+        ("a:b", "[0,{1},2,3,4,5]", "return {1}\n"),
+        ("a:c", "[0,1,[2],3,4,5]", "return [2]\n"),
+        ("a:d", "[0,1,2,{3},4,5]", "return {3}\n"),
+        ("z:e", "[0,1,2,3,[4],5]", "return [4]\n"),
+        ("z:f", "[0,1,2,3,4,{5}]", "return {5}\n"),
+        ("a:k", "[]", "return {first}\n"),
+        ("z:k", "[]", "return [second]\n"),
+        ("z:l", "[]", "return {third,[3]}\n"),
+    ] {
+        let run = ["run", "e.S", entry, args];
+        assert!(rt; prints(alloc, &run, image.as_slice(), 0, line)?, "{line}");
+    }
+    Ok(())
+}
+
+/// The arguments that are a list of so many `[]`.
+fn long_args(alloc: Global, elements: u32) -> Result<String, AllocError> {
+    let mut text = String::from_str(alloc, "[[[]")?;
+    for _ in 1..elements {
+        text.push_str(",[]")?;
+    }
+    text.push_str("]]")?;
+    Ok(text)
+}
+
+/// A list of so many elements has twice as many nodes, and one.
+#[test]
+fn long_values_are_cut(rt: HostRuntime) -> Result<(), Fail> {
+    let alloc = rt.alloc();
+    let image = image_of(alloc, TRIVIAL)?;
+    let args = long_args(alloc, 500_000)?;
+    let run = ["run", "e.S", "e:g", args.as_str()];
+    assert!(rt; prints(alloc, &run, image.as_slice(), 0, "return ...\n")?);
+    Ok(())
+}
+
 /// The words of the arguments against the limit of the heap.
 #[test]
 fn arguments_fit_or_not(rt: HostRuntime) -> Result<(), Fail> {

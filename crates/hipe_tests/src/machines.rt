@@ -158,9 +158,8 @@ const ENDING_GATES: [(u32, u32, End); 2] = [
     (0x0300_4000, 0x81C0_6008, End::StackFull),
 ];
 
-/// The same for gates and items that are not built, with their addresses.
-const NOT_BUILT: [(u32, u32, u32); 3] = [
-    (0x0300_4000, 0x81C0_600C, 0x0100_000C),
+/// The same for a gate that raises and an item, which are not built, with their addresses.
+const NOT_BUILT: [(u32, u32, u32); 2] = [
     (0x0300_4000, 0x81C0_6040, 0x0100_0040),
     (0x0300_8000, 0x81C0_6010, 0x0200_0010),
 ];

@@ -13,7 +13,7 @@ use Rattle.sparc_code.specs.declared.machine.MachineFault.TheVariants as sparc
 use Rattle.sparc_code.specs.Step.{Effect, Goes, Stores, Faults, word_effect}
 
 module _ (names : List (List ℕ)) where
-  abbrev IsNamed : Stage MixedState Finish → Type 0
+  abbrev pub IsNamed : Stage MixedState Finish → Type 0
   IsNamed x = IfDone x (λ f. IsAtomsOf names f.outcome)
 
   effect_named : (s : MixedState) (e : Effect) → IsNamed (native_after s e)
@@ -27,7 +27,7 @@ module _ (names : List (List ℕ)) where
   native_named g s None = tt
   native_named g s (Some word) = effect_named s (word_effect (load_of g.parts.literals s.memory) (stores_of s.memory) s.regs (decoded word))
 
-  named_in : (s : MixedState) (o : Option Outcome) → IsNamed (stage_of s o) → IfSome o (IsAtomsOf names)
+  pub named_in : (s : MixedState) (o : Option Outcome) → IsNamed (stage_of s o) → IfSome o (IsAtomsOf names)
   named_in s None h = tt
   named_in s (Some o) h = h
 

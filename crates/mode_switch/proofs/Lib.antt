@@ -8,3 +8,5 @@ pub mod Places
 pub mod Tops
 pub mod Lines
 pub mod Atoms
+pub mod Growth
+pub mod GateSteps

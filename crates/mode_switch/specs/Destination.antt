@@ -1,6 +1,5 @@
 -- Where PC may lead: gates, emulated items, native code; and where a call leads (docs/MACHINE.md, Addresses of code).
-use Rattle.std.specs.Prelude.{ℕ, ◌+◌, ◌-◌, ◌/◌, ◌%◌, Bool, ◌&&◌, ◌||◌, not, Option, Some, None, List, nat_eq, nat_lt, nat_le, if◌then◌else◌}
-use Rattle.beam_code.specs.declared.gates.TheConstants.{BUILT_INS, FIRST_RAISER, GATE_BADARG, GATE_BUILT_INS, GATE_GUARDS, LAST_RAISER}
+use Rattle.std.specs.Prelude.{ℕ, ◌+◌, ◌-◌, ◌/◌, ◌%◌, Bool, ◌&&◌, not, Option, Some, None, List, nat_eq, nat_lt, nat_le, if◌then◌else◌}
 use Rattle.beam_code.specs.declared.module.Module.{Module}
 use Rattle.beam_code.specs.Function.{Placed, function_at}
 use Rattle.mode_switch.specs.declared.addresses.TheConstants.{GATE_START, GATES}
@@ -10,17 +9,6 @@ use Rattle.image_format.specs.declared.limits.TheConstants.{CODE_START, ITEM_STA
 use Rattle.image_format.specs.declared.parts.Native.{Native}
 use Rattle.native_link.specs.Lookup.{native_entry_of}
 pub use Rattle.native_link.specs.Places.{first_item, item_address}
-
--- a guard is a gate for the built-ins that only compute
-abbrev pub is_raiser : ℕ → Bool
-is_raiser k = nat_le FIRST_RAISER k && nat_le k LAST_RAISER
-
--- the gates that are defined: those of ends and raises, built-ins, and built-ins as guards
-abbrev pub is_gate : ℕ → Bool
-is_gate n =
-    nat_le n GATE_BADARG
-    || (nat_le GATE_BUILT_INS n && nat_lt (n - GATE_BUILT_INS) BUILT_INS)
-    || (nat_le GATE_GUARDS n && (nat_lt (n - GATE_GUARDS) BUILT_INS && not (is_raiser (n - GATE_GUARDS))))
 
 -- whether an address lies among so many words from a start
 abbrev pub within : ℕ → ℕ → ℕ → Bool

@@ -2,6 +2,7 @@ pub mod State
 pub mod Memory
 pub mod Stores
 pub mod Destination
+pub mod Gates
 pub mod Step
 pub mod Junk
 pub mod Run

@@ -2,8 +2,11 @@
 use Rattle.std.specs.Prelude.{ℕ, List}
 use Rattle.beam_code.specs.declared.call.Limits.{Limits}
 use Rattle.beam_code.specs.declared.module.Module.{Module}
+use Rattle.mode_switch.specs.declared.outcome.End.{End}
 use Rattle.mode_switch.specs.declared.outcome.Outcome.{Outcome}
+use Rattle.mode_switch.specs.declared.outcome.Outcome.TheVariants.{Ended}
 use Rattle.image_format.specs.declared.parts.Parts.{Parts}
+use Rattle.small_step.specs.Stage.{Stage, Done}
 use Rattle.sparc_code.specs.declared.machine.Regs.{Regs}
 use Rattle.tagged_words.specs.Region.{Region}
 
@@ -32,3 +35,10 @@ pub record MixedState : Type 0 where
 pub record Finish : Type 0 where
   pub outcome : Outcome
   pub state : MixedState
+
+-- the run ends, and the state stays
+abbrev pub over : MixedState → Outcome → Stage MixedState Finish
+over s outcome = Done (record { outcome = outcome; state = s })
+
+abbrev pub ended : MixedState → End → Stage MixedState Finish
+ended s e = over s (Ended e)

@@ -1,30 +1,21 @@
 -- One step of the machine: a native word by the processor, a gate, or a row of an emulated item (docs/MACHINE.md, Steps).
-use Rattle.std.specs.Prelude.{ℕ, Option, Some, None, nat_eq, if◌then◌else◌, length, slice_get}
-use Rattle.small_step.specs.Stage.{Stage, Still, Done}
+use Rattle.std.specs.Prelude.{ℕ, Option, Some, None, length, slice_get}
+use Rattle.small_step.specs.Stage.{Stage, Still}
 use Rattle.beam_code.specs.Function.{items_of}
 use Rattle.sparc_code.specs.Code.{decoded}
 use Rattle.sparc_code.specs.declared.machine.Regs.{Regs}
 use Rattle.sparc_code.specs.declared.machine.MachineFault.{MachineFault}
 use Rattle.sparc_code.specs.declared.machine.MachineFault.TheVariants as sparc
-use Rattle.sparc_code.specs.Step.{Effect, Goes, Stores, Faults, register, word_effect}
+use Rattle.sparc_code.specs.Step.{Effect, Goes, Stores, Faults, word_effect}
 use Rattle.mode_switch.specs.declared.destination.Destination.{Destination}
 use Rattle.mode_switch.specs.declared.destination.Destination.TheVariants.{Gate, Item, Word, Nowhere}
-use Rattle.mode_switch.specs.declared.hardware.TheConstants.{VALUE_REGISTER}
 use Rattle.mode_switch.specs.declared.outcome.End.{End}
-use Rattle.mode_switch.specs.declared.outcome.End.TheVariants.{StackFull, OutOfReductions, MachineFault as Fault, NotBuilt}
+use Rattle.mode_switch.specs.declared.outcome.End.TheVariants.{MachineFault as Fault, NotBuilt}
 use Rattle.mode_switch.specs.declared.outcome.FaultKind.TheVariants.{Illegal, Unaligned, Range, Fetch}
-use Rattle.mode_switch.specs.declared.outcome.Outcome.{Outcome}
-use Rattle.mode_switch.specs.declared.outcome.Outcome.TheVariants.{Returned, Ended}
-use Rattle.mode_switch.specs.Destination.{destination_of, is_gate}
+use Rattle.mode_switch.specs.Destination.{destination_of}
+use Rattle.mode_switch.specs.Gates.{gate_step}
 use Rattle.mode_switch.specs.Memory.{load_of, stores_of, stored}
-use Rattle.mode_switch.specs.State.{Loaded, MixedState, Finish}
-
--- the run ends, and the state stays
-abbrev pub over : MixedState → Outcome → Stage MixedState Finish
-over s outcome = Done (record { outcome = outcome; state = s })
-
-abbrev pub ended : MixedState → End → Stage MixedState Finish
-ended s e = over s (Ended e)
+use Rattle.mode_switch.specs.State.{Loaded, MixedState, Finish, ended}
 
 -- the processor's fault: a word that is no instruction is at PC
 abbrev pub fault_of : Regs → MachineFault → End
@@ -42,17 +33,8 @@ abbrev pub native_step : Loaded → MixedState → Option ℕ → Stage MixedSta
 native_step g s None = ended s (Fault Fetch s.regs.pc)
 native_step g s (Some word) = native_after s (word_effect (load_of g.parts.literals s.memory) (stores_of s.memory) s.regs (decoded word))
 
--- a gate: the stop address, the two ends of an entry, and those still to come
-abbrev pub gate_step : MixedState → ℕ → Stage MixedState Finish
-gate_step s n =
-    if nat_eq n 0 then over s (Returned (register s.regs VALUE_REGISTER))
-    else if nat_eq n 1 then ended s OutOfReductions
-    else if nat_eq n 2 then ended s StackFull
-    else if is_gate n then ended s (NotBuilt s.regs.pc)
-    else ended s (Fault Fetch s.regs.pc)
-
 abbrev pub step_at : Loaded → MixedState → Destination → Stage MixedState Finish
-step_at g s (Gate n) = gate_step s n
+step_at g s (Gate n) = gate_step g s n
 step_at g s (Item i) = ended s (NotBuilt s.regs.pc)
 step_at g s (Word i) = native_step g s (slice_get g.parts.code i)
 step_at g s Nowhere = ended s (Fault Fetch s.regs.pc)

@@ -1,10 +1,9 @@
 //! Where PC may lead.
 
-ghost use Rattle.mode_switch.specs.Destination.{destination_of, within, is_gate as is_gate_number, is_raiser as is_raiser_number};
+ghost use Rattle.mode_switch.specs.Destination.{destination_of, within};
 ghost use Rattle.std.specs.Prelude.{◌≡◌};
 
 use crate::addresses::{GATE_START, GATES};
-use beam_code::{BUILT_INS, FIRST_RAISER, GATE_BADARG, GATE_BUILT_INS, GATE_GUARDS, LAST_RAISER};
 use image_format::{CODE_START, ITEM_START};
 
 /// Where an address leads: to a gate, an item or a code word, each by its number, or to none.
@@ -40,20 +39,4 @@ pub(crate) fn destination_at(items: u32, words: u32, at: u32) -> Destination
     } else {
         Destination::Nowhere
     }
-}
-
-/// The built-ins that only raise: they have no gate as guards.
-fn is_raiser(number: u32) -> bool
-    ensures { result ≡ is_raiser_number number }
-{
-    FIRST_RAISER <= number && number <= LAST_RAISER
-}
-
-/// Whether a gate is defined.
-pub(crate) fn is_gate(n: u32) -> bool
-    ensures { result ≡ is_gate_number n }
-{
-    n <= GATE_BADARG
-        || GATE_BUILT_INS <= n && n - GATE_BUILT_INS < BUILT_INS
-        || GATE_GUARDS <= n && n - GATE_GUARDS < BUILT_INS && !is_raiser(n - GATE_GUARDS)
 }

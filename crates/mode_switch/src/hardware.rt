@@ -9,8 +9,9 @@ ghost use Rattle.mode_switch.specs.Opening.{first_state_of};
 ghost use Rattle.mode_switch.specs.Run.{first_registers};
 ghost use Rattle.mode_switch.specs.declared.outcome.End.TheVariants.{MachineFault as Fault, NotBuilt};
 ghost use Rattle.mode_switch.specs.declared.outcome.FaultKind.TheVariants.{Fetch};
-ghost use Rattle.mode_switch.specs.Store.{below_top, extent, used_heap};
-ghost use Rattle.mode_switch.specs.Step.{ended, over, fault_of, gate_step, native_after};
+ghost use Rattle.mode_switch.specs.State.{ended, over};
+ghost use Rattle.mode_switch.specs.Store.{HasRoom, IsHeap, below_top, extent, heap_top, room, used_heap};
+ghost use Rattle.mode_switch.specs.Step.{fault_of, native_after};
 ghost use Rattle.sparc_code.specs.Code.{decoded};
 ghost use Rattle.sparc_code.specs.Step.{word_effect};
 ghost use Rattle.module_texts.specs.Bounds.{most_arguments};
@@ -20,7 +21,6 @@ ghost use Rattle.tagged_words.specs.declared.addresses.TheConstants.{HEAP_START 
 ghost use Rattle.term_tree.specs.Term.{tree_of};
 
 use crate::addresses::{STACK_END, STOP_LINK, X_START};
-use crate::destination::is_gate;
 use crate::memory::{Memory, Reach};
 use crate::outcome::{End, FaultKind, Outcome};
 use crate::words::UsedWords;
@@ -38,11 +38,24 @@ pub(crate) const VALUE_REGISTER: u8 = 8;
 /// The register of the heap top.
 pub(crate) const TOP_REGISTER: u8 = 2;
 
+/// The register of the heap limit, an address.
+pub(crate) const LIMIT_REGISTER: u8 = 4;
+
+/// The registers of a gate's arguments, in order; a gate answers in the first one.
+pub(crate) const FIRST_REGISTER: u8 = 1;
+
+pub(crate) const SECOND_REGISTER: u8 = 23;
+
+pub(crate) const THIRD_REGISTER: u8 = 30;
+
+/// The register of the link.
+pub(crate) const LINK_REGISTER: u8 = 15;
+
 /// Registers, memory, and the place in the list of junk.
 #[derive(Drop)]
 pub(crate) struct Hardware {
-    regs: Regs,
-    memory: Memory,
+    pub(crate) regs: Regs,
+    pub(crate) memory: Memory,
     place: u64,
 }
 
@@ -154,8 +167,7 @@ impl Hardware {
 
     /// The words that terms are looked up in, where these are the literals.
     pub(crate) fn words<'a>(&'a self, literals: &'a [u32]) -> UsedWords<'a>
-        requires start { self.now.memory.heap.start ≡ FIRST }
-        requires low { FIRST + 4 * length self.now.memory.heap.words ≤ 2 ^ 32 }
+        requires { IsHeap self.now.memory.heap }
         ensures literals { result.literals.now ≡ literals.now }
         ensures heap { below_top result.top result.heap.now.words ≡ used_heap self.now }
     {
@@ -169,27 +181,22 @@ impl Hardware {
         self.regs.pc
     }
 
-    /// The gate with a number: the run is over there.
-    pub(crate) fn gate(&self, number: u32) -> Outcome
-        ensures { over self.now result ≡ gate_step self.now number }
+    /// How many words are left on the heap, from its top.
+    pub(crate) fn room(&self) -> u32
+        requires { IsHeap self.now.memory.heap }
+        ensures room { result ≡ room self.now }
+        ensures fits { HasRoom (heap_top self.now) self.now.memory.heap result }
     {
-        match number {
-            0 => Outcome::Returned(self.regs.register(VALUE_REGISTER)),
-            1 => Outcome::Ended(End::OutOfReductions),
-            2 => Outcome::Ended(End::StackFull),
-            _ => self.other_gate(number),
+        let top = self.regs.register(TOP_REGISTER);
+        let end = self.memory.heap.end();
+        if top % 4 != 0 || top < HEAP_START || top > end {
+            return 0;
         }
-    }
-
-    fn other_gate(&self, number: u32) -> Outcome
-        requires { 2 < number }
-        ensures { over self.now result ≡ gate_step self.now number }
-    {
-        if is_gate(number) {
-            self.not_built()
-        } else {
-            self.no_code()
-        }
+        self.regs
+            .register(LIMIT_REGISTER)
+            .min(end)
+            .saturating_sub(top)
+            / 4
     }
 
     /// PC leads to no code.

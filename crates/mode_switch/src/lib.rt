@@ -4,6 +4,8 @@
 mod addresses;
 mod arguments;
 mod destination;
+mod gates;
+mod growing;
 mod hardware;
 mod laws;
 mod lookup;

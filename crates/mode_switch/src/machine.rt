@@ -2,6 +2,7 @@
 
 ghost use Rattle.beam_code.specs.Function.{exported_number};
 ghost use Rattle.mode_switch.specs.Call.{IsInRange};
+ghost use Rattle.mode_switch.specs.Gates.{gate_step};
 ghost use Rattle.mode_switch.specs.Machine.{DoNotFit, IsOpened, stage_of, stepped, step_answer, ran};
 ghost use Rattle.mode_switch.specs.Run.{bound, full_step};
 ghost use Rattle.mode_switch.specs.Step.{native_step};
@@ -172,6 +173,16 @@ impl Machine {
         }
     }
 
+    /// One step at the gate with a number.
+    fn do_gate(&mut self, number: u32) -> Option<Outcome>
+        ensures stage { stage_of self.new.state result ≡ gate_step self.old.loaded self.old.state number }
+        ensures rest { self.new ≡ record self.old { state = self.new.state } }
+    {
+        let literals = self.image.parts().literals.as_slice();
+        self.hardware
+            .gate(number, literals, &self.atoms, &mut self.scratch)
+    }
+
     /// One step of the state.
     #[inline]
     fn proceed(&mut self) -> Option<Outcome>
@@ -181,7 +192,7 @@ impl Machine {
     {
         let words = self.image.parts().code.len() as u32;
         match destination_at(self.items, words, self.hardware.pc()) {
-            Destination::Gate(number) => Some(self.hardware.gate(number)),
+            Destination::Gate(number) => self.do_gate(number),
             Destination::Item(_) => Some(self.hardware.not_built()),
             Destination::Word(place) => self.do_word(place),
             Destination::Nowhere => Some(self.hardware.no_code()),

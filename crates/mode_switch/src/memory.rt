@@ -1,5 +1,11 @@
 //! The words that loads and stores reach.
 
+ghost use Rattle.beam_code.specs.declared.gates.TheConstants.{BUILT_INS as TABLE};
+ghost use Rattle.mode_switch.specs.Gates.{reply_to};
+ghost use Rattle.mode_switch.specs.Store.{HasRoom, IsHeap};
+ghost use Rattle.prim_gates.specs.Reply.{words_of_answer};
+ghost use Rattle.prim_gates.specs.Said.{said_with};
+ghost use Rattle.word_laying.specs.Written.{written};
 ghost use Rattle.beam_code.specs.Meaning.{words_in};
 ghost use Rattle.ir_code.specs.Laying.{CanStand};
 ghost use Rattle.mode_switch.specs.Call.{IsInRange};
@@ -7,7 +13,7 @@ ghost use Rattle.mode_switch.specs.Memory.{literals_at, load_of, stores_of, stor
 ghost use Rattle.mode_switch.specs.Run.{first_memory};
 ghost use Rattle.module_texts.specs.Bounds.{most_arguments};
 ghost use Rattle.std.specs.List.{AllByRecursion};
-ghost use Rattle.std.specs.Prelude.{◌≡◌, ◌+◌, ◌*◌, ◌^◌, ◌≤◌, [], length, map, IfOk, OnOk};
+ghost use Rattle.std.specs.Prelude.{◌≡◌, ◌+◌, ◌*◌, ◌^◌, ◌<◌, ◌≤◌, [], length, map, IfOk, OnOk};
 ghost use Rattle.tagged_words.specs.Laid.{laid_in_turn, words_in_turn};
 ghost use Rattle.tagged_words.specs.Region.{word_at};
 ghost use Rattle.tagged_words.specs.declared.addresses.TheConstants.{HEAP_START as FIRST};
@@ -15,18 +21,21 @@ ghost use Rattle.term_tree.specs.Term.{tree_of};
 
 use crate::addresses::{STACK_END, STACK_FLOOR, X_START};
 use crate::arguments::{heap_with, xs_with};
+use crate::growing::{Asked, GrowingWords, Made};
 use crate::words::UsedWords;
 use beam_code::Limits;
+use prim_gates::gate;
 use sparc_code::WordMemory;
 use std::alloc::{AllocError, Global};
 use std::marker::Model;
 use tagged_words::{Atoms, HEAP_START, LITERAL_START, WordBlock};
 use term_tree::Term;
+use word_walks::Scratch;
 
 /// Heap, x area and stack, each in its range of addresses: the words that stores reach.
 #[derive(Drop)]
 pub(crate) struct Memory {
-    heap: WordBlock,
+    pub(crate) heap: WordBlock,
     xs: WordBlock,
     stack: WordBlock,
 }
@@ -72,6 +81,44 @@ impl Memory {
         ensures top { result.top ≡ top }
     {
         UsedWords::new(literals, &self.heap, top)
+    }
+
+    /// Does a built-in on the heap.
+    pub(crate) fn built_in(
+        &mut self,
+        asked: &Asked,
+        literals: &[u32],
+        atoms: &Atoms,
+        scratch: &mut Scratch,
+    ) -> Made
+        requires there { asked.now.k < TABLE }
+        requires heap { IsHeap self.old.heap }
+        requires left { HasRoom asked.now.top self.old.heap asked.now.left }
+        requires room { length literals.now + length self.old.heap.words < length scratch.old }
+        ensures says { let r = reply_to literals.now atoms.now self.old.heap asked.now in said_with result.answer (words_of_answer r) ≡ r }
+        ensures words { let r = reply_to literals.now atoms.now self.old.heap asked.now in self.new ≡ record self.old { heap = written self.old.heap asked.now.top (words_of_answer r) } }
+        ensures top { result.top ≡ asked.now.top + 4 * length (words_of_answer (reply_to literals.now atoms.now self.old.heap asked.now)) }
+        ensures same { length scratch.new ≡ length scratch.old }
+    {
+        let mut words = GrowingWords {
+            literals,
+            heap: &mut self.heap,
+            top: asked.top,
+            left: asked.left,
+        };
+        let answer = gate(
+            asked.k,
+            asked.first,
+            asked.second,
+            asked.third,
+            &mut words,
+            atoms,
+            scratch,
+        );
+        Made {
+            answer,
+            top: words.top,
+        }
     }
 
     /// The word at an address, where these are the literal words.

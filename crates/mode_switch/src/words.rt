@@ -1,6 +1,7 @@
 //! The words that terms are looked up in.
 
-ghost use Rattle.mode_switch.specs.Store.{extent};
+ghost use Rattle.mode_switch.specs.Store.{store_below};
+ghost use Rattle.tagged_words.specs.Store.{word_of};
 ghost use Rattle.std.specs.Prelude.{◌≡◌, ◌+◌, ◌*◌, ◌^◌, ◌≤◌, length};
 ghost use Rattle.tagged_words.specs.declared.addresses.TheConstants.{HEAP_START as FIRST};
 
@@ -34,21 +35,29 @@ impl<'a> UsedWords<'a> {
     }
 }
 
+/// The word at an address, among the literals or in a heap below its top.
+pub(crate) fn word_below(literals: &[u32], heap: &WordBlock, top: u32, addr: u32) -> Option<u32>
+    requires { heap.now.start ≡ FIRST }
+    ensures { result ≡ word_of (store_below literals.now heap.now top) addr }
+{
+    if addr < HEAP_START {
+        literal_at(literals, addr)
+    } else if addr < top {
+        heap.get(addr)
+    } else {
+        None
+    }
+}
+
 impl<'a> Words for UsedWords<'a> {
-    ghost use Rattle.mode_switch.specs.Store.{below_top};
+    ghost use Rattle.mode_switch.specs.Store.{store_below};
     ghost use Rattle.std.proofs.Common.{arith};
     ghost use Rattle.std.proofs.lemmas.List.{length-take};
 
-    ghost store = { λ m. record { literals = m.literals.now; heap = below_top m.top m.heap.now.words } };
+    ghost store = { λ m. store_below m.literals.now m.heap.now m.top };
 
     fn word(&self, addr: u32) -> Option<u32> {
-        if addr < HEAP_START {
-            literal_at(self.literals, addr)
-        } else if addr < self.top {
-            self.heap.get(addr)
-        } else {
-            None
-        }
+        word_below(self.literals, self.heap, self.top, addr)
     }
 
     ghost has_addresses = { Prim.grind (arith, length-take) };

@@ -16,3 +16,4 @@ pub mod Chains
 pub mod Kept
 pub mod Growing
 pub mod Ranges
+pub mod Found

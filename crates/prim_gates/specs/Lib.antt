@@ -6,3 +6,4 @@ pub mod Said
 pub mod Shallow
 pub mod Ended
 pub mod Chain
+pub mod OnWords

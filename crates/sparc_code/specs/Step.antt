@@ -72,9 +72,13 @@ past_next regs = record regs { pc = in_word (regs.npc + 4); npc = in_word (regs.
 abbrev pub at_target : Regs → ℕ → Regs
 at_target regs target = record regs { pc = target; npc = in_word (target + 4) }
 
--- a target that is given by its distance in words
+-- the address at a distance in words from another one
+abbrev pub target_from : ℕ → ℤ → ℕ
+target_from at disp = in_word (at + 4 * cast_unsigned w32 disp)
+
+-- a target that is given by its distance from PC
 abbrev pub target_of : Regs → ℤ → ℕ
-target_of regs disp = in_word (regs.pc + 4 * cast_unsigned w32 disp)
+target_of regs disp = target_from regs.pc disp
 
 -- rd takes a value
 abbrev pub giving : Regs → ℕ → ℕ → Regs

@@ -2,11 +2,19 @@
 
 ghost use Rattle.std.specs.Prelude.{ℕ, ◌≡◌, ◌<◌, ◌^◌};
 ghost use Rattle.sparc_code.specs.Code.{IsRegister, IsSource};
-ghost use Rattle.sparc_code.specs.Step.{register, with_register, operand, address_of, advanced, going_to, past_next, at_target, target_of, giving, giving_flags, giving_product, holds, is_always, is_jump, is_aligned, after_sethi, after_branch, after_call, after_jump, after_op, sum_of, sum_overflows, sum_carries, difference_of, difference_overflows, difference_borrows, product_of, shift_count};
+ghost use Rattle.sparc_code.specs.Step.{register, with_register, operand, address_of, advanced, going_to, past_next, at_target, target_from, target_of, giving, giving_flags, giving_product, holds, is_always, is_jump, is_aligned, after_sethi, after_branch, after_call, after_jump, after_op, sum_of, sum_overflows, sum_carries, difference_of, difference_overflows, difference_borrows, product_of, shift_count};
 ghost use Rattle.std.specs.Int.{w32, cast_signed, cast_unsigned, int_shr};
 
 use crate::instruction::{ArithOp, Cond, Source};
 use crate::machine::Regs;
+
+/// The address that lies `disp` words from `addr`.
+#[inline]
+pub(crate) fn target_from(addr: u32, disp: i32) -> u32
+    ensures { result ≡ target_from addr disp }
+{
+    addr.wrapping_add(disp.cast_unsigned().wrapping_mul(4))
+}
 
 impl Regs {
     /// The value of a register.
@@ -49,7 +57,7 @@ impl Regs {
     fn target(&self, disp: i32) -> u32
         ensures { result ≡ target_of self.now disp }
     {
-        self.pc.wrapping_add(disp.cast_unsigned().wrapping_mul(4))
+        target_from(self.pc, disp)
     }
 
     /// A register takes a value; one that is put in %g0 is dropped.
